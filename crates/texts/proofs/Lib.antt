@@ -1,0 +1,4 @@
+pub mod Puts
+pub mod OnDigits
+pub mod Lines
+pub mod Numbers
