@@ -1,0 +1,35 @@
+-- The lines of a card, and what the line at a machine number quotes
+use mathlib.Core.Path.{_≡_, ap, _∙_}
+use mathlib.Core.Bool.{true, cond, not}
+use mathlib.Core.List.{List, [], _∷_, _++_}
+use Prim.Native.Nat.{ℕ, _<_}
+use native.Mathlib.Omega.{arith}
+use lib.Dec.{leb}
+use lib.ListN.{length, getD}
+use Rattle.std.proofs.shelf.Lists.{getD-take}
+use Rattle.std.proofs.shelf.Maps.{nth-getD}
+use Rattle.std.proofs.shelf.Tests.{cond-true, cond-false, lt-leb}
+use Rattle.std.specs.Results.{isOk}
+use Rattle.std.specs.shelf.Maps.{nth}
+use Rattle.std.specs.declared.option.Option.the-variants.{Some}
+use Rattle.std.specs.declared.result.Result.the-variants.{Ok}
+use Rattle.refusals.specs.Answer.{Answer}
+use Rattle.work.specs.Work.{work-in-range}
+use Rattle.tariffs.specs.declared.card.RateCard.{RateCard}
+use Rattle.tariffs.specs.declared.line.Line.{Line}
+use Rattle.tariffs.specs.Line.{line, line-in-range, line-quote}
+use Rattle.tariffs.specs.Card.{lines-of, add-answer, lines-after, quote-by, card-quote}
+use Rattle.tariffs.specs.Ranges.{length-lines}
+
+pub quote-at : (card : RateCard) (machine work : ℕ) (d : Line) → machine < card .count → work-in-range work ≡ true → card-quote (lines-of card) machine work ≡ line-quote (getD (card .lines) machine d) work
+quote-at card machine work d h good =
+    let here : nth (lines-of card) machine ≡ Some (getD (card .lines) machine d) = nth-getD (lines-of card) machine d (omega (arith, length-lines card)) ∙ ap Some (getD-take (card .count) (card .lines) machine d h) in
+    cond-true (work-in-range work) _ _ good ∙ ap (λ o. quote-by o work) here
+
+-- a line in range for a card that is not full
+module _ (lines : List Line) (speed rate : ℕ) (room : length lines < 32) (fine : line-in-range speed rate ≡ true) where
+  pub add-obeyed : add-answer lines speed rate ≡ Ok (length lines)
+  add-obeyed = cond-false (leb 32 (length lines)) _ _ (lt-leb 32 (length lines) room) ∙ cond-false (not (line-in-range speed rate)) _ _ (ap not fine)
+
+  pub lines-added : lines-after lines speed rate ≡ lines ++ (line speed rate ∷ [])
+  lines-added = ap (λ (a : Answer ℕ). cond (isOk a) (lines ++ (line speed rate ∷ [])) lines) add-obeyed

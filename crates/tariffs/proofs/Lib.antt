@@ -1,0 +1,4 @@
+pub mod SameLine
+pub mod Cards
+pub mod Firsts
+pub mod Tables

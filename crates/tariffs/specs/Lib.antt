@@ -1,0 +1,11 @@
+pub mod Refusal
+pub mod Meaning
+pub mod RoundedUp
+pub mod Charge
+pub mod Line
+pub mod Card
+pub mod First
+pub mod Rows
+pub mod Table
+pub mod Ranges
+pub mod Never

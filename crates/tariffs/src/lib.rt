@@ -1,0 +1,31 @@
+// Tariffs: what each hired machine quotes for a work.
+mod card;
+mod charge;
+mod line;
+mod never;
+mod quote;
+mod refusal;
+mod row;
+mod table;
+mod tariff;
+
+pub use card::RateCard;
+pub use card::tariff::CardTariff;
+pub use charge::charge_for;
+pub use line::Line;
+pub use never::NeverQuotes;
+pub use never::NeverTariff;
+pub use quote::Quote;
+pub use refusal::CardRefusal;
+pub use refusal::CardRefusalDebug;
+pub use refusal::CardRefusalPartialEq;
+pub use refusal::CardRefused;
+pub use refusal::RowRefusal;
+pub use refusal::RowRefusalDebug;
+pub use refusal::RowRefusalPartialEq;
+pub use refusal::RowRefused;
+pub use row::Row;
+pub use table::QuoteTable;
+pub use table::check::check_rows;
+pub use table::tariff::TableTariff;
+pub use tariff::Tariff;
