@@ -11,6 +11,12 @@ pub struct NeverQuotes<C> {
     kind: PhantomData<C>,
 }
 
+impl<C> NeverQuotes<C> {
+    pub fn new() -> NeverQuotes<C> {
+        NeverQuotes { kind: PhantomData }
+    }
+}
+
 pub impl<C: Cost> Tariff for NeverQuotes<C> as NeverTariff {
     type Cost = C;
 
