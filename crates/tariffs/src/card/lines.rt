@@ -1,6 +1,8 @@
 // An empty card, and one line more.
 ghost use mathlib.Core.Path.{_≡_};
+ghost use mathlib.Core.Bool.{false};
 ghost use mathlib.Core.List.{[]};
+ghost use Rattle.std.specs.Results.{isOk};
 ghost use Rattle.refusals.specs.Answer.{answer-of};
 ghost use Rattle.tariffs.specs.Card.{lines-of, add-answer, lines-after};
 ghost use Rattle.tariffs.specs.Refusal.{card-told};
@@ -26,6 +28,7 @@ impl RateCard {
     pub fn add(&mut self, speed: u32, rate: u32) -> Result<usize, CardRefusal>
         ensures answer { λ r. ⌜ answer-of card-told r ≡ add-answer (lines-of (now (self .entry))) speed rate ⌝ }
         ensures after { λ _. ⌜ lines-of (now (self .exit)) ≡ lines-after (lines-of (now (self .entry))) speed rate ⌝ }
+        ensures refused { λ r. ⌜ (isOk r ≡ false → now (self .exit) ≡ now (self .entry)) ⌝ }
     {
         let machine = self.count;
         if machine >= MAX_LINES {

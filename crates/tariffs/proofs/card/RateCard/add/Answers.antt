@@ -2,6 +2,7 @@ use mathlib.Core.Path.{_≡_, sym, ap, _∙_}
 use mathlib.Core.List.{[], _∷_, _++_}
 use Prim.Native.Nat.{_<_}
 use native.Mathlib.Omega.{arith}
+use borrow.Author.Needs.{needs}
 use lib.ListN.{length}
 use Rattle.std.proofs.shelf.Lists.{take-more-set}
 use Rattle.std.specs.declared.result.Result.the-variants.{Ok}
@@ -23,4 +24,5 @@ returns c =
     record {
       answer = ap Ok (sym count) ∙ sym (add-obeyed (lines-of card) (c .args .speed) (c .args .rate) free (made .0));
       after = take-more-set (card .lines) (card .count) _ room ∙ ap (λ l. lines-of card ++ (l ∷ [])) same ∙ sym (lines-added (lines-of card) (c .args .speed) (c .args .rate) free (made .0));
+      refused = search needs;
     }
