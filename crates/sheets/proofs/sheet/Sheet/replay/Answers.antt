@@ -1,0 +1,22 @@
+use mathlib.Core.Path.{ap, sym, _∙_}
+use lib.ListN.{take}
+use native.Mathlib.Omega.{arith}
+use Rattle.std.proofs.shelf.Lists.{take-all, take-more}
+use Rattle.sheets.specs.declared.call.Call.the-variants.{Stage}
+use Rattle.sheets.specs.History.{book-after}
+use Rattle.sheets.proofs.Histories.{book-sound, numbers-never-reused, struck-stays-struck, refused-left-out}
+use Rattle.sheets.proofs.sheet.Sheet.replay.Needs as need
+
+pub loop-call-again : need.loop-call-again
+loop-call-again c =
+    let known = c .perform .ensures .known (take (c .loop-call .call-index) (c .args .calls .now)) (c .loop-call .inv) in
+    known ∙ ap book-after (sym (take-more (c .args .calls .now) (c .loop-call .call-index) Stage (omega arith)))
+
+pub returns : need.returns
+returns c = record {
+  known = c .loop-call .inv ∙ ap book-after (take-all (c .loop-call .call-index) (c .args .calls .now) (omega arith));
+  sound = book-sound;
+  numbers = numbers-never-reused;
+  strikes = struck-stays-struck;
+  refusals = refused-left-out;
+}

@@ -1,0 +1,47 @@
+// Calls carried out as values, and the sheets that lists of calls make.
+ghost use mathlib.Core.Path.{_≡_};
+ghost use Rattle.refusals.specs.Answer.{answer-of};
+ghost use Rattle.sheets.specs.Refusals.{sheet-told};
+ghost use Rattle.sheets.specs.Book.{book, answer, step};
+ghost use Rattle.sheets.specs.History.{Known, Known-further, Every-book-is-sound, Task-numbers-are-never-reused, Struck-tasks-stay-struck, Refused-calls-can-be-left-out};
+use crate::call::Call;
+use crate::refusal::SheetRefusal;
+use crate::sheet::Sheet;
+
+impl Sheet {
+    // Carries a call out; `stage` and `task` give the number of what they added.
+    pub fn perform(&mut self, call: Call) -> Result<Option<usize>, SheetRefusal>
+        ensures answer { λ r. ⌜ answer-of sheet-told r ≡ answer (book (now (self .entry))) call ⌝ }
+        ensures after { λ _. ⌜ book (now (self .exit)) ≡ step (book (now (self .entry))) call ⌝ }
+        ensures known { λ _. ⌜ Known-further (now (self .entry)) call (now (self .exit)) ⌝ }
+    {
+        match call {
+            Call::Stage => Ok(Some(self.stage()?)),
+            Call::Task { stage, work } => Ok(Some(self.task(stage, work)?)),
+            Call::Rework { task, work } => {
+                self.rework(task, work)?;
+                Ok(None)
+            }
+            Call::Strike { task } => {
+                self.strike(task)?;
+                Ok(None)
+            }
+            Call::Front | Call::Budget | Call::Deadline => Ok(None),
+        }
+    }
+
+    // The sheet that has known these calls, refused ones included.
+    pub fn replay(calls: &[Call]) -> Sheet
+        ensures known { λ r. ⌜ Known r (now (calls .entry)) ⌝ }
+        ensures sound { λ _. ⌜ Every-book-is-sound ⌝ }
+        ensures numbers { λ _. ⌜ Task-numbers-are-never-reused ⌝ }
+        ensures strikes { λ _. ⌜ Struck-tasks-stay-struck ⌝ }
+        ensures refusals { λ _. ⌜ Refused-calls-can-be-left-out ⌝ }
+    {
+        let mut sheet = Sheet::open();
+        for call in calls {
+            let _ = sheet.perform(*call);
+        }
+        sheet
+    }
+}
