@@ -1,6 +1,6 @@
 -- The laws of histories
-use mathlib.Core.Path.{_≡_, refl, sym, ap, _∙_}
-use mathlib.Core.Bool.{Bool, true, false}
+use mathlib.Core.Path.{_≡_, refl, sym, ap, subst, _∙_}
+use mathlib.Core.Bool.{true}
 use mathlib.Core.List.{List, [], _∷_, _++_}
 use Prim.Native.Nat.{ℕ, zero, suc, _+_, _≤_, _<_}
 use native.Mathlib.Omega.{arith}
@@ -8,20 +8,21 @@ use lib.ListN.{length}
 use Rattle.std.specs.declared.option.Option.{Option}
 use Rattle.std.specs.declared.option.Option.the-variants.{Some, None}
 use Rattle.std.specs.declared.result.Result.the-variants.{Ok, Err}
+use Rattle.std.specs.Options.{mapped}
 use Rattle.std.specs.shelf.Lists.{All}
 use Rattle.std.specs.shelf.Maps.{nth}
 use Rattle.std.proofs.shelf.Elements.{all-push, all-weaker, all-from-getD}
 use Rattle.std.proofs.shelf.Lists.{length-push}
-use Rattle.std.proofs.shelf.Tests.{both-ways}
+use Rattle.std.proofs.shelf.Tests.{both-ways, not-from-true}
 use Rattle.refusals.specs.Answer.{Answer, Refused}
 use Rattle.sheets.specs.declared.call.Call.{Call}
 use Rattle.sheets.specs.declared.call.Call.the-variants.{Stage, Task as NewTask, Rework, Strike, Front, Budget, Deadline}
 use Rattle.sheets.specs.declared.sheet.Sheet.{Sheet}
 use Rattle.sheets.specs.declared.task.Task.{Task}
-use Rattle.sheets.specs.Tasks.{is-struck, reworked, struck-out, no-task, Sound-task}
+use Rattle.sheets.specs.Tasks.{stands, reworked, struck-out, no-task, Sound-task}
 use Rattle.sheets.specs.Book.{Book, accepted, answer, book, changed, checked, number, obeyed, opened, step}
-use Rattle.sheets.specs.History.{after, book-after, Sound, Every-book-is-sound, Task-numbers-are-never-reused, Struck-tasks-stay-struck, Refused-calls-can-be-left-out}
-use Rattle.sheets.proofs.Checks.{stage-fits, task-fits, task-sound, rework-in-range, step-accepted}
+use Rattle.sheets.specs.History.{after, book-after, Sound, Every-book-is-sound, Task-numbers-are-never-reused, Tasks-keep-their-stages, Struck-tasks-stay-as-they-are, Refused-calls-can-be-left-out}
+use Rattle.sheets.proofs.Checks.{stage-fits, task-fits, task-sound, rework-stands, rework-in-range, strike-stands, step-accepted}
 use Rattle.sheets.proofs.Tables.{count-is, sound-within}
 
 pub after-append : (b : Book) (calls others : List Call) → after b (calls ++ others) ≡ after (after b calls) others
@@ -52,17 +53,28 @@ all-changed P change keeps n [] all = tt
 all-changed P change keeps zero (task ∷ tasks) all = (keeps task (all .0), all .1)
 all-changed P change keeps (suc n) (task ∷ tasks) all = (all .0, all-changed P change keeps n tasks (all .1))
 
-struck-changed : (change : Task → Task) → ((task : Task) → task .struck ≡ true → change task .struck ≡ true) → (m : ℕ) (tasks : List Task) (n : ℕ) → is-struck (nth tasks n) ≡ true → is-struck (nth (changed change m tasks) n) ≡ true
-struck-changed change keeps m [] n struck = struck
-struck-changed change keeps zero (task ∷ tasks) zero struck = keeps task struck
-struck-changed change keeps zero (task ∷ tasks) (suc n) struck = struck
-struck-changed change keeps (suc m) (task ∷ tasks) zero struck = struck
-struck-changed change keeps (suc m) (task ∷ tasks) (suc n) struck = struck-changed change keeps m tasks n struck
+found-changed : {A : Type 0} (part : Task → A) (change : Task → Task) → ((task : Task) → part (change task) ≡ part task) → (m : ℕ) (tasks : List Task) (n : ℕ) → mapped part (nth (changed change m tasks) n) ≡ mapped part (nth tasks n)
+found-changed part change keeps m [] n = refl
+found-changed part change keeps zero (task ∷ tasks) zero = ap Some (keeps task)
+found-changed part change keeps zero (task ∷ tasks) (suc n) = refl
+found-changed part change keeps (suc m) (task ∷ tasks) zero = refl
+found-changed part change keeps (suc m) (task ∷ tasks) (suc n) = found-changed part change keeps m tasks n
 
-struck-append : (tasks others : List Task) (n : ℕ) → is-struck (nth tasks n) ≡ true → is-struck (nth (tasks ++ others) n) ≡ true
-struck-append [] others n struck = absurd (both-ways false refl struck)
-struck-append (task ∷ tasks) others zero struck = struck
-struck-append (task ∷ tasks) others (suc n) struck = struck-append tasks others n struck
+found-other : (change : Task → Task) (m : ℕ) (tasks : List Task) (n : ℕ) → (m ≡ n → ⊥) → nth (changed change m tasks) n ≡ nth tasks n
+found-other change m [] n other = refl
+found-other change zero (task ∷ tasks) zero other = absurd (other refl)
+found-other change zero (task ∷ tasks) (suc n) other = refl
+found-other change (suc m) (task ∷ tasks) zero other = refl
+found-other change (suc m) (task ∷ tasks) (suc n) other = found-other change m tasks n (λ e. other (ap suc e))
+
+found-append : {A : Type 0} (view : Option Task → Option A) (a : A) → view None ≡ None → (tasks others : List Task) (n : ℕ) → view (nth tasks n) ≡ Some a → view (nth (tasks ++ others) n) ≡ Some a
+found-append view a none [] others n found = let never : _≡_ {A = ℕ} 0 1 = cc in absurd (omega arith)
+found-append view a none (task ∷ tasks) others zero found = found
+found-append view a none (task ∷ tasks) others (suc n) found = found-append view a none tasks others n found
+
+found-push : (tasks : List Task) (task : Task) → nth (tasks ++ (task ∷ [])) (length tasks) ≡ Some task
+found-push [] task = refl
+found-push (other ∷ tasks) task = found-push tasks task
 
 -- sound books
 obeyed-sound : (b : Book) (call : Call) → accepted ≡ checked b call → Sound b → Sound (obeyed b call)
@@ -117,8 +129,8 @@ answered b call outcome = by (checked b call) refl
     by (Ok _) e h = (e, cc)
     by (Err refused) e h = let never : _≡_ {A = ℕ} 0 1 = cc in absurd (omega arith)
 
-pub numbers-never-reused : Task-numbers-are-never-reused
-numbers-never-reused calls stage work earlier others stage′ work′ later first second =
+pub task-numbers-are-never-reused : Task-numbers-are-never-reused
+task-numbers-are-never-reused calls stage work earlier others stage′ work′ later first second =
     let b = book-after calls in
     let one = answered b (NewTask stage work) (Some earlier) first in
     let two = answered (book-after (calls ++ (NewTask stage work ∷ others))) (NewTask stage′ work′) (Some later) second in
@@ -129,19 +141,44 @@ numbers-never-reused calls stage work earlier others stage′ work′ later firs
     let whole = ap (λ (c : Book). length (c .tasks)) (after-append opened calls (NewTask stage work ∷ others)) in
     omega arith
 
--- strikes
-obeyed-struck : (n : ℕ) (b : Book) (call : Call) → accepted ≡ checked b call → is-struck (nth (b .tasks) n) ≡ true → is-struck (nth (obeyed b call .tasks) n) ≡ true
-obeyed-struck n b Stage e struck = struck
-obeyed-struck n b (NewTask stage work) e struck = struck-append (b .tasks) _ n struck
-obeyed-struck n b (Rework task work) e struck = struck-changed (reworked work) (λ t s. s) task (b .tasks) n struck
-obeyed-struck n b (Strike task) e struck = struck-changed struck-out (λ t s. refl) task (b .tasks) n struck
-obeyed-struck n b Front e struck = struck
-obeyed-struck n b Budget e struck = struck
-obeyed-struck n b Deadline e struck = struck
+-- the stages of tasks
+obeyed-stage : (n stage : ℕ) (b : Book) (call : Call) → accepted ≡ checked b call → mapped (λ task. task .stage) (nth (b .tasks) n) ≡ Some stage → mapped (λ task. task .stage) (nth (obeyed b call .tasks) n) ≡ Some stage
+obeyed-stage n stage b Stage e found = found
+obeyed-stage n stage b (NewTask other work) e found = found-append (mapped (λ task. task .stage)) stage refl (b .tasks) _ n found
+obeyed-stage n stage b (Rework task work) e found = found-changed (λ t. t .stage) (reworked work) (λ t. refl) task (b .tasks) n ∙ found
+obeyed-stage n stage b (Strike task) e found = found-changed (λ t. t .stage) struck-out (λ t. refl) task (b .tasks) n ∙ found
+obeyed-stage n stage b Front e found = found
+obeyed-stage n stage b Budget e found = found
+obeyed-stage n stage b Deadline e found = found
 
-pub struck-stays-struck : Struck-tasks-stay-struck
-struck-stays-struck calls others task struck =
-    rw (after-append opened calls others) (after-keeps (λ b. is-struck (nth (b .tasks) task) ≡ true) (obeyed-struck task) (book-after calls) others struck)
+pub tasks-keep-their-stages : Tasks-keep-their-stages
+tasks-keep-their-stages calls stage work number others first =
+    let b = book-after calls in
+    let one = answered b (NewTask stage work) (Some number) first in
+    let place : number ≡ length (b .tasks) = cc in
+    let added : mapped (λ (task : Task). task .stage) (nth (step b (NewTask stage work) .tasks) number) ≡ Some stage =
+    rw (step-accepted b (NewTask stage work) (one .0), place, found-push) refl in
+    rw (after-append opened calls (NewTask stage work ∷ others))
+    (after-keeps (λ c. mapped (λ task. task .stage) (nth (c .tasks) number) ≡ Some stage) (obeyed-stage number stage) (step b (NewTask stage work)) others added)
+
+-- struck tasks
+never-standing : (found : Option Task) (task : Task) → found ≡ Some task → task .struck ≡ true → stands found ≡ true → ⊥
+never-standing found task is struck stood = both-ways _ (ap stands is ∙ not-from-true _ struck) stood
+
+obeyed-struck : (n : ℕ) (task : Task) → task .struck ≡ true → (b : Book) (call : Call) → accepted ≡ checked b call → nth (b .tasks) n ≡ Some task → nth (obeyed b call .tasks) n ≡ Some task
+obeyed-struck n task struck b Stage e found = found
+obeyed-struck n task struck b (NewTask stage work) e found = found-append (λ found. found) task refl (b .tasks) _ n found
+obeyed-struck n task struck b (Rework m work) e found =
+    found-other (reworked work) m (b .tasks) n (λ same. never-standing _ task found struck (subst (λ (k : ℕ). stands (nth (b .tasks) k) ≡ true) same (rework-stands b m work e))) ∙ found
+obeyed-struck n task struck b (Strike m) e found =
+    found-other struck-out m (b .tasks) n (λ same. never-standing _ task found struck (subst (λ (k : ℕ). stands (nth (b .tasks) k) ≡ true) same (strike-stands b m e))) ∙ found
+obeyed-struck n task struck b Front e found = found
+obeyed-struck n task struck b Budget e found = found
+obeyed-struck n task struck b Deadline e found = found
+
+pub struck-tasks-stay-as-they-are : Struck-tasks-stay-as-they-are
+struck-tasks-stay-as-they-are calls others number task found struck =
+    rw (after-append opened calls others) (after-keeps (λ b. nth (b .tasks) number ≡ Some task) (obeyed-struck number task struck) (book-after calls) others found)
 
 -- refused calls
 step-refused : (b : Book) (call : Call) (refused : Refused) → answer b call ≡ Err refused → step b call ≡ b
@@ -151,8 +188,8 @@ step-refused b call refused = by (checked b call)
     by (Ok _) h = let never : _≡_ {A = ℕ} 0 1 = cc in absurd (omega arith)
     by (Err why) h = refl
 
-pub refused-left-out : Refused-calls-can-be-left-out
-refused-left-out calls call others refused h =
+pub refused-calls-can-be-left-out : Refused-calls-can-be-left-out
+refused-calls-can-be-left-out calls call others refused h =
     after-append opened calls (call ∷ others)
     ∙ ap (λ (b : Book). after b others) (step-refused (book-after calls) call refused h)
     ∙ sym (after-append opened calls others)

@@ -1,6 +1,5 @@
 -- The book of a sheet, kept from the arguments of its calls alone
-use mathlib.Core.Path.{_≡_}
-use mathlib.Core.Bool.{Bool, true, false, not}
+use mathlib.Core.Bool.{not}
 use mathlib.Core.List.{List, [], _∷_, _++_}
 use Prim.Native.Nat.{ℕ, zero, suc, _+_}
 use lib.Dec.{leb}
@@ -10,7 +9,7 @@ use Rattle.std.specs.declared.option.Option.{Option}
 use Rattle.std.specs.declared.option.Option.the-variants.{Some, None}
 use Rattle.std.specs.declared.result.Result.{Result}
 use Rattle.std.specs.declared.result.Result.the-variants.{Ok, Err}
-use Rattle.refusals.specs.Answer.{Answer, Refused, refused-if}
+use Rattle.refusals.specs.Answer.{Answer, refused-if}
 use Rattle.sheets.specs.declared.call.Call.{Call}
 use Rattle.sheets.specs.declared.call.Call.the-variants.{Stage, Task as NewTask, Rework, Strike, Front, Budget, Deadline}
 use Rattle.sheets.specs.declared.sheet.Sheet.{Sheet}

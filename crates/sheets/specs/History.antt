@@ -4,6 +4,7 @@ use mathlib.Core.Bool.{true}
 use mathlib.Core.List.{List, [], _∷_, _++_}
 use Prim.Native.Nat.{ℕ, _<_, _≤_}
 use lib.ListN.{length}
+use Rattle.std.specs.Options.{mapped}
 use Rattle.std.specs.shelf.Lists.{All}
 use Rattle.std.specs.shelf.Maps.{nth}
 use Rattle.std.specs.declared.option.Option.the-variants.{Some}
@@ -12,7 +13,8 @@ use Rattle.refusals.specs.Answer.{Refused}
 use Rattle.sheets.specs.declared.call.Call.{Call}
 use Rattle.sheets.specs.declared.call.Call.the-variants.{Task as NewTask}
 use Rattle.sheets.specs.declared.sheet.Sheet.{Sheet}
-use Rattle.sheets.specs.Tasks.{max-stages, max-tasks, is-struck, Sound-task}
+use Rattle.sheets.specs.declared.task.Task.{Task}
+use Rattle.sheets.specs.Tasks.{max-stages, max-tasks, Sound-task}
 use Rattle.sheets.specs.Book.{Book, opened, answer, step, book}
 
 abbrev pub after : Book → List Call → Book
@@ -49,11 +51,19 @@ Task-numbers-are-never-reused =
     → answer (book-after (calls ++ (NewTask stage work ∷ others))) (NewTask stage′ work′) ≡ Ok (Some later)
     → earlier < later
 
-abbrev pub Struck-tasks-stay-struck : Type 0
-Struck-tasks-stay-struck =
-    (calls others : List Call) (task : ℕ)
-    → is-struck (nth (book-after calls .tasks) task) ≡ true
-    → is-struck (nth (book-after (calls ++ others) .tasks) task) ≡ true
+-- whatever calls follow, the number of an accepted task finds a task of its stage
+abbrev pub Tasks-keep-their-stages : Type 0
+Tasks-keep-their-stages =
+    (calls : List Call) (stage work number : ℕ) (others : List Call)
+    → answer (book-after calls) (NewTask stage work) ≡ Ok (Some number)
+    → mapped (λ task. task .stage) (nth (book-after (calls ++ (NewTask stage work ∷ others)) .tasks) number) ≡ Some stage
+
+abbrev pub Struck-tasks-stay-as-they-are : Type 0
+Struck-tasks-stay-as-they-are =
+    (calls others : List Call) (number : ℕ) (task : Task)
+    → nth (book-after calls .tasks) number ≡ Some task
+    → task .struck ≡ true
+    → nth (book-after (calls ++ others) .tasks) number ≡ Some task
 
 abbrev pub Refused-calls-can-be-left-out : Type 0
 Refused-calls-can-be-left-out =

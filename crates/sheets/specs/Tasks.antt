@@ -32,14 +32,10 @@ reworked work task = task-of (task .stage) work (task .struck)
 abbrev pub struck-out : Task → Task
 struck-out task = task-of (task .stage) (task .work) true
 
--- of what a look-up by number found: a standing task; a struck one
+-- a look-up by number found a standing task
 abbrev pub stands : Option Task → Bool
 stands None = false
 stands (Some task) = not (task .struck)
-
-abbrev pub is-struck : Option Task → Bool
-is-struck None = false
-is-struck (Some task) = task .struck
 
 -- the task's stage exists, and its work is in range
 abbrev pub Sound-task : ℕ → Task → Type 0

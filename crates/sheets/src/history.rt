@@ -3,7 +3,7 @@ ghost use mathlib.Core.Path.{_≡_};
 ghost use Rattle.refusals.specs.Answer.{answer-of};
 ghost use Rattle.sheets.specs.Refusals.{sheet-told};
 ghost use Rattle.sheets.specs.Book.{book, answer, step};
-ghost use Rattle.sheets.specs.History.{Known, Known-further, Every-book-is-sound, Task-numbers-are-never-reused, Struck-tasks-stay-struck, Refused-calls-can-be-left-out};
+ghost use Rattle.sheets.specs.History.{Known, Known-further, Every-book-is-sound, Task-numbers-are-never-reused, Tasks-keep-their-stages, Struck-tasks-stay-as-they-are, Refused-calls-can-be-left-out};
 use crate::call::Call;
 use crate::refusal::SheetRefusal;
 use crate::sheet::Sheet;
@@ -35,7 +35,8 @@ impl Sheet {
         ensures known { λ r. ⌜ Known r (now (calls .entry)) ⌝ }
         ensures sound { λ _. ⌜ Every-book-is-sound ⌝ }
         ensures numbers { λ _. ⌜ Task-numbers-are-never-reused ⌝ }
-        ensures strikes { λ _. ⌜ Struck-tasks-stay-struck ⌝ }
+        ensures stages { λ _. ⌜ Tasks-keep-their-stages ⌝ }
+        ensures strikes { λ _. ⌜ Struck-tasks-stay-as-they-are ⌝ }
         ensures refusals { λ _. ⌜ Refused-calls-can-be-left-out ⌝ }
     {
         let mut sheet = Sheet::open();

@@ -4,7 +4,7 @@ use native.Mathlib.Omega.{arith}
 use Rattle.std.proofs.shelf.Lists.{take-all, take-more}
 use Rattle.sheets.specs.declared.call.Call.the-variants.{Stage}
 use Rattle.sheets.specs.History.{book-after}
-use Rattle.sheets.proofs.Histories.{book-sound, numbers-never-reused, struck-stays-struck, refused-left-out}
+use Rattle.sheets.proofs.Histories.{book-sound, task-numbers-are-never-reused, tasks-keep-their-stages, struck-tasks-stay-as-they-are, refused-calls-can-be-left-out}
 use Rattle.sheets.proofs.sheet.Sheet.replay.Needs as need
 
 pub loop-call-again : need.loop-call-again
@@ -16,7 +16,8 @@ pub returns : need.returns
 returns c = record {
   known = c .loop-call .inv ∙ ap book-after (take-all (c .loop-call .call-index) (c .args .calls .now) (omega arith));
   sound = book-sound;
-  numbers = numbers-never-reused;
-  strikes = struck-stays-struck;
-  refusals = refused-left-out;
+  numbers = task-numbers-are-never-reused;
+  stages = tasks-keep-their-stages;
+  strikes = struck-tasks-stay-as-they-are;
+  refusals = refused-calls-can-be-left-out;
 }
