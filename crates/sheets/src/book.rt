@@ -4,6 +4,7 @@ ghost use mathlib.Core.Bool.{true};
 ghost use mathlib.Core.List.{[]};
 ghost use Prim.Native.Nat.{_<_};
 ghost use Rattle.std.specs.shelf.Maps.{nth};
+ghost use Rattle.std.specs.Results.{isErr};
 ghost use Rattle.refusals.specs.Answer.{answer-of};
 ghost use Rattle.sheets.specs.Tasks.{stands};
 ghost use Rattle.sheets.specs.Refusals.{sheet-told};
@@ -84,6 +85,7 @@ impl Sheet {
         ensures answer { λ r. ⌜ answer-of sheet-told (numbered r) ≡ answer (book (now (self .entry))) Call.Stage ⌝ }
         ensures after { λ _. ⌜ book (now (self .exit)) ≡ step (book (now (self .entry))) Call.Stage ⌝ }
         ensures known { λ _. ⌜ Known-further (now (self .entry)) Call.Stage (now (self .exit)) ⌝ }
+        ensures refused { λ r. ⌜ (isErr r ≡ true → now (self .exit) ≡ now (self .entry)) ⌝ }
     {
         self.check(Call::Stage)?;
         self.stages += 1;
@@ -95,6 +97,7 @@ impl Sheet {
         ensures answer { λ r. ⌜ answer-of sheet-told (numbered r) ≡ answer (book (now (self .entry))) (Call.Task stage work) ⌝ }
         ensures after { λ _. ⌜ book (now (self .exit)) ≡ step (book (now (self .entry))) (Call.Task stage work) ⌝ }
         ensures known { λ _. ⌜ Known-further (now (self .entry)) (Call.Task stage work) (now (self .exit)) ⌝ }
+        ensures refused { λ r. ⌜ (isErr r ≡ true → now (self .exit) ≡ now (self .entry)) ⌝ }
     {
         self.check(Call::Task { stage, work })?;
         let number = self.count;
@@ -108,6 +111,7 @@ impl Sheet {
         ensures answer { λ r. ⌜ answer-of sheet-told (numberless r) ≡ answer (book (now (self .entry))) (Call.Rework task work) ⌝ }
         ensures after { λ _. ⌜ book (now (self .exit)) ≡ step (book (now (self .entry))) (Call.Rework task work) ⌝ }
         ensures known { λ _. ⌜ Known-further (now (self .entry)) (Call.Rework task work) (now (self .exit)) ⌝ }
+        ensures refused { λ r. ⌜ (isErr r ≡ true → now (self .exit) ≡ now (self .entry)) ⌝ }
     {
         self.check(Call::Rework { task, work })?;
         self.tasks[task].work = work;
@@ -119,6 +123,7 @@ impl Sheet {
         ensures answer { λ r. ⌜ answer-of sheet-told (numberless r) ≡ answer (book (now (self .entry))) (Call.Strike task) ⌝ }
         ensures after { λ _. ⌜ book (now (self .exit)) ≡ step (book (now (self .entry))) (Call.Strike task) ⌝ }
         ensures known { λ _. ⌜ Known-further (now (self .entry)) (Call.Strike task) (now (self .exit)) ⌝ }
+        ensures refused { λ r. ⌜ (isErr r ≡ true → now (self .exit) ≡ now (self .entry)) ⌝ }
     {
         self.check(Call::Strike { task })?;
         self.tasks[task].struck = true;

@@ -1,5 +1,7 @@
 // Calls carried out as values, and the sheets that lists of calls make.
 ghost use mathlib.Core.Path.{_≡_};
+ghost use mathlib.Core.Bool.{true};
+ghost use Rattle.std.specs.Results.{isErr};
 ghost use Rattle.refusals.specs.Answer.{answer-of};
 ghost use Rattle.sheets.specs.Refusals.{sheet-told};
 ghost use Rattle.sheets.specs.Book.{book, answer, step};
@@ -14,6 +16,7 @@ impl Sheet {
         ensures answer { λ r. ⌜ answer-of sheet-told r ≡ answer (book (now (self .entry))) call ⌝ }
         ensures after { λ _. ⌜ book (now (self .exit)) ≡ step (book (now (self .entry))) call ⌝ }
         ensures known { λ _. ⌜ Known-further (now (self .entry)) call (now (self .exit)) ⌝ }
+        ensures refused { λ r. ⌜ (isErr r ≡ true → now (self .exit) ≡ now (self .entry)) ⌝ }
     {
         match call {
             Call::Stage => Ok(Some(self.stage()?)),
