@@ -85,7 +85,7 @@ impl Sheet {
         ensures answer { λ r. ⌜ answer-of sheet-told (numbered r) ≡ answer (book (now (self .entry))) Call.Stage ⌝ }
         ensures after { λ _. ⌜ book (now (self .exit)) ≡ step (book (now (self .entry))) Call.Stage ⌝ }
         ensures known { λ _. ⌜ Known-further (now (self .entry)) Call.Stage (now (self .exit)) ⌝ }
-        ensures refused { λ r. ⌜ (isErr r ≡ true → now (self .exit) ≡ now (self .entry)) ⌝ }
+        ensures refused_alters_nothing { λ r. ⌜ (isErr r ≡ true → now (self .exit) ≡ now (self .entry)) ⌝ }
     {
         self.check(Call::Stage)?;
         self.stages += 1;
@@ -97,7 +97,7 @@ impl Sheet {
         ensures answer { λ r. ⌜ answer-of sheet-told (numbered r) ≡ answer (book (now (self .entry))) (Call.Task stage work) ⌝ }
         ensures after { λ _. ⌜ book (now (self .exit)) ≡ step (book (now (self .entry))) (Call.Task stage work) ⌝ }
         ensures known { λ _. ⌜ Known-further (now (self .entry)) (Call.Task stage work) (now (self .exit)) ⌝ }
-        ensures refused { λ r. ⌜ (isErr r ≡ true → now (self .exit) ≡ now (self .entry)) ⌝ }
+        ensures refused_alters_nothing { λ r. ⌜ (isErr r ≡ true → now (self .exit) ≡ now (self .entry)) ⌝ }
     {
         self.check(Call::Task { stage, work })?;
         let number = self.count;
@@ -111,7 +111,7 @@ impl Sheet {
         ensures answer { λ r. ⌜ answer-of sheet-told (numberless r) ≡ answer (book (now (self .entry))) (Call.Rework task work) ⌝ }
         ensures after { λ _. ⌜ book (now (self .exit)) ≡ step (book (now (self .entry))) (Call.Rework task work) ⌝ }
         ensures known { λ _. ⌜ Known-further (now (self .entry)) (Call.Rework task work) (now (self .exit)) ⌝ }
-        ensures refused { λ r. ⌜ (isErr r ≡ true → now (self .exit) ≡ now (self .entry)) ⌝ }
+        ensures refused_alters_nothing { λ r. ⌜ (isErr r ≡ true → now (self .exit) ≡ now (self .entry)) ⌝ }
     {
         self.check(Call::Rework { task, work })?;
         self.tasks[task].work = work;
@@ -123,7 +123,7 @@ impl Sheet {
         ensures answer { λ r. ⌜ answer-of sheet-told (numberless r) ≡ answer (book (now (self .entry))) (Call.Strike task) ⌝ }
         ensures after { λ _. ⌜ book (now (self .exit)) ≡ step (book (now (self .entry))) (Call.Strike task) ⌝ }
         ensures known { λ _. ⌜ Known-further (now (self .entry)) (Call.Strike task) (now (self .exit)) ⌝ }
-        ensures refused { λ r. ⌜ (isErr r ≡ true → now (self .exit) ≡ now (self .entry)) ⌝ }
+        ensures refused_alters_nothing { λ r. ⌜ (isErr r ≡ true → now (self .exit) ≡ now (self .entry)) ⌝ }
     {
         self.check(Call::Strike { task })?;
         self.tasks[task].struck = true;

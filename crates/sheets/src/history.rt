@@ -16,7 +16,7 @@ impl Sheet {
         ensures answer { λ r. ⌜ answer-of sheet-told r ≡ answer (book (now (self .entry))) call ⌝ }
         ensures after { λ _. ⌜ book (now (self .exit)) ≡ step (book (now (self .entry))) call ⌝ }
         ensures known { λ _. ⌜ Known-further (now (self .entry)) call (now (self .exit)) ⌝ }
-        ensures refused { λ r. ⌜ (isErr r ≡ true → now (self .exit) ≡ now (self .entry)) ⌝ }
+        ensures refused_alters_nothing { λ r. ⌜ (isErr r ≡ true → now (self .exit) ≡ now (self .entry)) ⌝ }
     {
         match call {
             Call::Stage => Ok(Some(self.stage()?)),
@@ -36,11 +36,11 @@ impl Sheet {
     // The sheet that has known these calls, refused ones included.
     pub fn replay(calls: &[Call]) -> Sheet
         ensures known { λ r. ⌜ Known r (now (calls .entry)) ⌝ }
-        ensures sound { λ _. ⌜ Every-book-is-sound ⌝ }
-        ensures numbers { λ _. ⌜ Task-numbers-are-never-reused ⌝ }
-        ensures stages { λ _. ⌜ Tasks-keep-their-stages ⌝ }
-        ensures strikes { λ _. ⌜ Struck-tasks-stay-as-they-are ⌝ }
-        ensures refusals { λ _. ⌜ Refused-calls-can-be-left-out ⌝ }
+        ensures books_sound { λ _. ⌜ Every-book-is-sound ⌝ }
+        ensures numbers_never_reused { λ _. ⌜ Task-numbers-are-never-reused ⌝ }
+        ensures stages_kept { λ _. ⌜ Tasks-keep-their-stages ⌝ }
+        ensures struck_tasks_kept { λ _. ⌜ Struck-tasks-stay-as-they-are ⌝ }
+        ensures refused_left_out { λ _. ⌜ Refused-calls-can-be-left-out ⌝ }
     {
         let mut sheet = Sheet::open();
         for call in calls {

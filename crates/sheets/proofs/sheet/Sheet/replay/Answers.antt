@@ -15,9 +15,9 @@ loop-call-again c =
 pub returns : need.returns
 returns c = record {
   known = c .loop-call .inv ∙ ap book-after (take-all (c .loop-call .call-index) (c .args .calls .now) (omega arith));
-  sound = book-sound;
-  numbers = task-numbers-are-never-reused;
-  stages = tasks-keep-their-stages;
-  strikes = struck-tasks-stay-as-they-are;
-  refusals = refused-calls-can-be-left-out;
+  books-sound = book-sound;
+  numbers-never-reused = task-numbers-are-never-reused;
+  stages-kept = tasks-keep-their-stages;
+  struck-tasks-kept = struck-tasks-stay-as-they-are;
+  refused-left-out = refused-calls-can-be-left-out;
 }

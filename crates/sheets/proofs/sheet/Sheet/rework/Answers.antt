@@ -15,9 +15,9 @@ index-self-task c =
     omega arith
 
 pub returns-in-Break-check : need.returns-in-Break-check
-returns-in-Break-check c = record { answer = search needs; after = search needs; known = known-further _ _ _ (search needs); refused = search needs }
+returns-in-Break-check c = record { answer = search needs; after = search needs; known = known-further _ _ _ (search needs); refused-alters-nothing = search needs }
 
 pub returns : need.returns
 returns c =
     let written = rework-written (c .args .self .now) (c .args .task) (c .args .work) (c .in-Continue-check .ensures tt) in
-    record { answer = search needs; after = written; known = known-further _ _ _ written; refused = search needs }
+    record { answer = search needs; after = written; known = known-further _ _ _ written; refused-alters-nothing = search needs }

@@ -12,9 +12,9 @@ ghost-self c =
     (search needs, (search needs, (search needs, (sound-push _ _ _ _ room (c .args .self .now .sound) (rw (c .new .ensures) new), tt))))
 
 pub returns-in-Break-check : need.returns-in-Break-check
-returns-in-Break-check c = record { answer = search needs; after = search needs; known = known-further _ _ _ (search needs); refused = search needs }
+returns-in-Break-check c = record { answer = search needs; after = search needs; known = known-further _ _ _ (search needs); refused-alters-nothing = search needs }
 
 pub returns : need.returns
 returns c =
     let written = task-written (c .args .self .now) (c .args .stage) (c .args .work) (c .in-Continue-check .ensures tt) in
-    record { answer = search (needs, count-is); after = rw (c .new .ensures) written; known = known-further _ _ _ (rw (c .new .ensures) written); refused = search needs }
+    record { answer = search (needs, count-is); after = rw (c .new .ensures) written; known = known-further _ _ _ (rw (c .new .ensures) written); refused-alters-nothing = search needs }
