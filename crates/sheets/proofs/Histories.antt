@@ -22,8 +22,8 @@ use Rattle.sheets.specs.declared.task.Task.{Task}
 use Rattle.sheets.specs.Tasks.{stands, reworked, struck-out, no-task, Sound-task}
 use Rattle.sheets.specs.Book.{Book, accepted, answer, book, changed, checked, number, obeyed, opened, step}
 use Rattle.sheets.specs.History.{after, book-after, Sound, Every-book-is-sound, Task-numbers-are-never-reused, Tasks-keep-their-stages, Struck-tasks-stay-as-they-are, Refused-calls-can-be-left-out}
-use Rattle.sheets.proofs.Checks.{stage-fits, task-fits, task-sound, rework-stands, rework-in-range, strike-stands, step-accepted}
-use Rattle.sheets.proofs.Tables.{count-is, sound-within}
+use Rattle.sheets.proofs.Books.{stage-fits, task-fits, task-sound, rework-stands, rework-in-range, strike-stands, step-accepted}
+use Rattle.sheets.proofs.Sheets.{count-is, sound-within}
 
 pub after-append : (b : Book) (calls others : List Call) → after b (calls ++ others) ≡ after (after b calls) others
 after-append b [] others = refl

@@ -1,3 +1,4 @@
-pub mod Checks
-pub mod Tables
+pub mod Books
+pub mod Applies
+pub mod Sheets
 pub mod Histories

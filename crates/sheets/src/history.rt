@@ -6,6 +6,7 @@ ghost use Rattle.refusals.specs.Answer.{answer-of};
 ghost use Rattle.sheets.specs.Refusals.{sheet-told};
 ghost use Rattle.sheets.specs.Book.{book, answer, step};
 ghost use Rattle.sheets.specs.History.{Known, Known-further, Every-book-is-sound, Task-numbers-are-never-reused, Tasks-keep-their-stages, Struck-tasks-stay-as-they-are, Refused-calls-can-be-left-out};
+ghost use Rattle.sheets.specs.Applies.{The-smallest-refusal-is-told};
 use crate::call::Call;
 use crate::refusal::SheetRefusal;
 use crate::sheet::Sheet;
@@ -36,6 +37,7 @@ impl Sheet {
     // The sheet that has known these calls, refused ones included.
     pub fn replay(calls: &[Call]) -> Sheet
         ensures known { λ r. ⌜ Known r (now (calls .entry)) ⌝ }
+        ensures smallest_refusal_told { λ _. ⌜ The-smallest-refusal-is-told ⌝ }
         ensures books_sound { λ _. ⌜ Every-book-is-sound ⌝ }
         ensures numbers_never_reused { λ _. ⌜ Task-numbers-are-never-reused ⌝ }
         ensures stages_kept { λ _. ⌜ Tasks-keep-their-stages ⌝ }

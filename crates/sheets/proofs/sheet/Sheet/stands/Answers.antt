@@ -1,5 +1,5 @@
 use borrow.Author.Needs.{needs}
-use Rattle.sheets.proofs.Tables.{found-within, found-past}
+use Rattle.sheets.proofs.Sheets.{found-within, found-past}
 use Rattle.sheets.proofs.sheet.Sheet.stands.Needs as need
 
 pub returns-then-task-self : need.returns-then-task-self

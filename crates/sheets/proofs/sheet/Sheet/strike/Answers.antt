@@ -1,7 +1,7 @@
 use native.Mathlib.Omega.{arith}
 use borrow.Author.Needs.{needs}
 use Rattle.sheets.proofs.Histories.{known-further}
-use Rattle.sheets.proofs.Tables.{strike-within, strike-written}
+use Rattle.sheets.proofs.Sheets.{strike-within, strike-written}
 use Rattle.sheets.proofs.sheet.Sheet.strike.Needs as need
 
 pub offset-self-task : need.offset-self-task

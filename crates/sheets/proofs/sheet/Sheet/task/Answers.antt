@@ -1,8 +1,8 @@
 use borrow.Author.Needs.{needs}
 use Rattle.sheets.specs.Book.{book}
-use Rattle.sheets.proofs.Checks.{task-sound}
+use Rattle.sheets.proofs.Books.{task-sound}
 use Rattle.sheets.proofs.Histories.{known-further}
-use Rattle.sheets.proofs.Tables.{count-is, task-room, task-written, sound-push}
+use Rattle.sheets.proofs.Sheets.{count-is, task-room, task-written, sound-push}
 use Rattle.sheets.proofs.sheet.Sheet.task.Needs as need
 
 pub ghost-self : need.ghost-self

@@ -1,6 +1,6 @@
 use borrow.Author.Needs.{needs}
 use native.Mathlib.Nat.{sub-zero}
-use Rattle.sheets.proofs.Tables.{sound-within, count-is}
+use Rattle.sheets.proofs.Sheets.{sound-within, count-is}
 use Rattle.sheets.proofs.sheet.Sheet.tasks.Needs as need
 
 pub returns : need.returns

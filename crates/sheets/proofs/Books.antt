@@ -20,7 +20,7 @@ passed false number rest outcome e = (refl, e)
 pub step-accepted : (book : Book) (call : Call) → accepted ≡ checked book call → step book call ≡ obeyed book call
 step-accepted book call e = ap (λ (outcome : Answer (Unit {0})). elim outcome [ Ok _ ↦ obeyed book call | Err refused ↦ book ]) (sym e)
 
-work-in-range : (work : ℕ) → in-range work ≡ true → (1 ≤ work) × (work ≤ max-work)
+pub work-in-range : (work : ℕ) → in-range work ≡ true → (1 ≤ work) × (work ≤ max-work)
 work-in-range work e = let parts = and-parts _ _ e in (leb-true _ _ (parts .0), leb-true _ _ (parts .1))
 
 pub stage-fits : (book : Book) → accepted ≡ checked book Stage → book .stages < max-stages

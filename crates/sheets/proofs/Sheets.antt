@@ -18,7 +18,7 @@ use Rattle.sheets.specs.declared.task.Task.{Task}
 use Rattle.sheets.specs.declared.call.Call.the-variants.{Task as NewTask, Rework, Strike}
 use Rattle.sheets.specs.Tasks.{no-task, new-task, reworked, struck-out, stands, Sound-task, Sound-tasks}
 use Rattle.sheets.specs.Book.{book, book-of, accepted, checked, changed, step}
-use Rattle.sheets.proofs.Checks.{task-fits, rework-stands, strike-stands, step-accepted}
+use Rattle.sheets.proofs.Books.{task-fits, rework-stands, strike-stands, step-accepted}
 
 pub count-is : (sheet : Sheet) → length (book sheet .tasks) ≡ sheet .count
 count-is sheet = length-take-le (sheet .count) (sheet .tasks) (omega arith)
