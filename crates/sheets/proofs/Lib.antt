@@ -1,0 +1,4 @@
+pub mod Books
+pub mod Applies
+pub mod Sheets
+pub mod Histories
