@@ -17,19 +17,20 @@ use Rattle.sheets.specs.declared.call.Call.the-variants.{Stage, Task as NewTas
 use Rattle.sheets.specs.declared.refusal.SheetRefusal.{SheetRefusal}
 use Rattle.sheets.specs.declared.refusal.SheetRefusal.the-variants.{Full, Unknown, WorkOutOfRange}
 use Rattle.sheets.specs.declared.task.Task.{Task}
-use Rattle.sheets.specs.Tasks.{max-stages, max-tasks, in-range, stands}
+use Rattle.work.specs.Work.{work-in-range}
+use Rattle.sheets.specs.Tasks.{max-stages, max-tasks, stands}
 use Rattle.sheets.specs.Refusals.{sheet-told}
 use Rattle.sheets.specs.Book.{Book, accepted, checked, number}
 use Rattle.sheets.specs.Applies.{Standing, Out-of-range, Applies, stage-at-the-limit, task-at-the-limit, task-of-no-stage, rework-of-none-standing, strike-of-none-standing, task-out-of-range, rework-out-of-range, Is-smallest, The-smallest-refusal-is-told}
-use Rattle.sheets.proofs.Books.{work-in-range}
+use Rattle.sheets.proofs.Books.{range-of-work}
 
 -- the tests of the book in words
-out-of-range : (work : ℕ) → in-range work ≡ false → Out-of-range work
+out-of-range : (work : ℕ) → work-in-range work ≡ false → Out-of-range work
 out-of-range work e = ⊎-elim (λ low. inl (leb-false _ _ low)) (λ high. inr (leb-false _ _ high)) (and-cases _ _ e)
 
-never-out : (work : ℕ) → in-range work ≡ true → Out-of-range work → ⊥
-never-out work e (inl low) = let range = work-in-range work e in absurd (omega arith)
-never-out work e (inr high) = let range = work-in-range work e in absurd (omega arith)
+never-out : (work : ℕ) → work-in-range work ≡ true → Out-of-range work → ⊥
+never-out work e (inl low) = let range = range-of-work work e in absurd (omega arith)
+never-out work e (inr high) = let range = range-of-work work e in absurd (omega arith)
 
 none-standing : (book : Book) (task : ℕ) → stands (nth (book .tasks) task) ≡ false → Standing book task → ⊥
 none-standing book task e standing = both-ways _ e (ap stands (standing .1) ∙ not-from-false _ (standing .2))
@@ -61,7 +62,7 @@ task-from-three book stage work room known other (task-at-the-limit h) = absurd 
 task-from-three book stage work room known other (task-of-no-stage h) = absurd (omega arith)
 task-from-three book stage work room known other (task-out-of-range h) = omega arith
 
-task-none : (book : Book) (stage work : ℕ) → length (book .tasks) < max-tasks → stage < book .stages → in-range work ≡ true → (refusal : SheetRefusal) → Applies book refusal (NewTask stage work) → ⊥
+task-none : (book : Book) (stage work : ℕ) → length (book .tasks) < max-tasks → stage < book .stages → work-in-range work ≡ true → (refusal : SheetRefusal) → Applies book refusal (NewTask stage work) → ⊥
 task-none book stage work room known range refusal (task-at-the-limit h) = omega arith
 task-none book stage work room known range refusal (task-of-no-stage h) = omega arith
 task-none book stage work room known range refusal (task-out-of-range h) = never-out work range h
@@ -74,7 +75,7 @@ rework-from-three : (book : Book) (task work : ℕ) → Standing book task → (
 rework-from-three book task work standing other (rework-of-none-standing h) = absurd (h standing)
 rework-from-three book task work standing other (rework-out-of-range h) = omega arith
 
-rework-none : (book : Book) (task work : ℕ) → Standing book task → in-range work ≡ true → (refusal : SheetRefusal) → Applies book refusal (Rework task work) → ⊥
+rework-none : (book : Book) (task work : ℕ) → Standing book task → work-in-range work ≡ true → (refusal : SheetRefusal) → Applies book refusal (Rework task work) → ⊥
 rework-none book task work standing range refusal (rework-of-none-standing h) = h standing
 rework-none book task work standing range refusal (rework-out-of-range h) = never-out work range h
 
@@ -109,16 +110,16 @@ verdict book Stage = by (leb max-stages (book .stages)) refl
     by : (full : Bool) → leb max-stages (book .stages) ≡ full → Verdict book Stage (refused-if full 1 accepted)
     by true e = record { refusal = Full; told = refl; applies = stage-at-the-limit (leb-true _ _ e); smallest = λ other _. from-one other }
     by false e = stage-none book (leb-false _ _ e)
-verdict book (NewTask stage work) = by (leb max-tasks (length (book .tasks))) refl (leb (book .stages) stage) refl (in-range work) refl
+verdict book (NewTask stage work) = by (leb max-tasks (length (book .tasks))) refl (leb (book .stages) stage) refl (work-in-range work) refl
   where
-    by : (full : Bool) → leb max-tasks (length (book .tasks)) ≡ full → (unknown : Bool) → leb (book .stages) stage ≡ unknown → (range : Bool) → in-range work ≡ range → Verdict book (NewTask stage work) (refused-if full 1 (refused-if unknown 2 (refused-if (not range) 3 accepted)))
+    by : (full : Bool) → leb max-tasks (length (book .tasks)) ≡ full → (unknown : Bool) → leb (book .stages) stage ≡ unknown → (range : Bool) → work-in-range work ≡ range → Verdict book (NewTask stage work) (refused-if full 1 (refused-if unknown 2 (refused-if (not range) 3 accepted)))
     by true e unknown u range r = record { refusal = Full; told = refl; applies = task-at-the-limit (leb-true _ _ e); smallest = λ other _. from-one other }
     by false e true u range r = record { refusal = Unknown; told = refl; applies = task-of-no-stage (leb-true _ _ u); smallest = task-from-two book stage work (leb-false _ _ e) }
     by false e false u false r = record { refusal = WorkOutOfRange; told = refl; applies = task-out-of-range (out-of-range work r); smallest = task-from-three book stage work (leb-false _ _ e) (leb-false _ _ u) }
     by false e false u true r = task-none book stage work (leb-false _ _ e) (leb-false _ _ u) r
-verdict book (Rework task work) = by (stands (nth (book .tasks) task)) refl (in-range work) refl
+verdict book (Rework task work) = by (stands (nth (book .tasks) task)) refl (work-in-range work) refl
   where
-    by : (stood : Bool) → stands (nth (book .tasks) task) ≡ stood → (range : Bool) → in-range work ≡ range → Verdict book (Rework task work) (refused-if (not stood) 2 (refused-if (not range) 3 accepted))
+    by : (stood : Bool) → stands (nth (book .tasks) task) ≡ stood → (range : Bool) → work-in-range work ≡ range → Verdict book (Rework task work) (refused-if (not stood) 2 (refused-if (not range) 3 accepted))
     by false e range r = record { refusal = Unknown; told = refl; applies = rework-of-none-standing (none-standing book task e); smallest = rework-from-two book task work }
     by true e false r = record { refusal = WorkOutOfRange; told = refl; applies = rework-out-of-range (out-of-range work r); smallest = rework-from-three book task work (some-standing _ e) }
     by true e true r = rework-none book task work (some-standing _ e) r

@@ -13,7 +13,8 @@ use Rattle.sheets.specs.declared.call.Call.the-variants.{Stage, Task as NewTas
 use Rattle.sheets.specs.declared.refusal.SheetRefusal.{SheetRefusal}
 use Rattle.sheets.specs.declared.refusal.SheetRefusal.the-variants.{Full, Unknown, WorkOutOfRange}
 use Rattle.sheets.specs.declared.task.Task.{Task}
-use Rattle.sheets.specs.Tasks.{max-stages, max-tasks, max-work}
+use Rattle.work.specs.Work.{max-work}
+use Rattle.sheets.specs.Tasks.{max-stages, max-tasks}
 use Rattle.sheets.specs.Refusals.{sheet-told}
 use Rattle.sheets.specs.Book.{Book, answer}
 

@@ -14,7 +14,8 @@ use Rattle.sheets.specs.declared.call.Call.{Call}
 use Rattle.sheets.specs.declared.call.Call.the-variants.{Stage, Task as NewTask, Rework, Strike, Front, Budget, Deadline}
 use Rattle.sheets.specs.declared.sheet.Sheet.{Sheet}
 use Rattle.sheets.specs.declared.task.Task.{Task}
-use Rattle.sheets.specs.Tasks.{max-stages, max-tasks, in-range, stands, new-task, reworked, struck-out}
+use Rattle.work.specs.Work.{work-in-range}
+use Rattle.sheets.specs.Tasks.{max-stages, max-tasks, stands, new-task, reworked, struck-out}
 
 -- task numbers are places in the list, from 0
 pub record Book : Type 0 where
@@ -38,11 +39,11 @@ checked book Stage =
 checked book (NewTask stage work) =
     refused-if (leb max-tasks (length (book .tasks))) 1
     (refused-if (leb (book .stages) stage) 2
-    (refused-if (not (in-range work)) 3
+    (refused-if (not (work-in-range work)) 3
     accepted))
 checked book (Rework task work) =
     refused-if (not (stands (nth (book .tasks) task))) 2
-    (refused-if (not (in-range work)) 3
+    (refused-if (not (work-in-range work)) 3
     accepted)
 checked book (Strike task) =
     refused-if (not (stands (nth (book .tasks) task))) 2

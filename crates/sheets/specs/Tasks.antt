@@ -1,11 +1,11 @@
 -- A task of a sheet, and the limits of a sheet
-use mathlib.Core.Bool.{Bool, true, false, not, _&&_}
+use mathlib.Core.Bool.{Bool, true, false, not}
 use mathlib.Core.List.{List}
 use Prim.Native.Nat.{ℕ, _<_, _≤_}
-use lib.Dec.{leb}
 use lib.ListN.{getD}
 use Rattle.std.specs.declared.option.Option.{Option}
 use Rattle.std.specs.declared.option.Option.the-variants.{Some, None}
+use Rattle.work.specs.Work.{max-work}
 use Rattle.sheets.specs.declared.task.Task.{Task}
 
 abbrev pub max-stages : ℕ
@@ -13,12 +13,6 @@ max-stages = 16
 
 abbrev pub max-tasks : ℕ
 max-tasks = 256
-
-abbrev pub max-work : ℕ
-max-work = 1000000
-
-abbrev pub in-range : ℕ → Bool
-in-range work = leb 1 work && leb work max-work
 
 abbrev pub task-of : ℕ → ℕ → Bool → Task
 task-of stage work struck = record { stage = stage; work = work; struck = struck }

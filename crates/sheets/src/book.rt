@@ -16,7 +16,7 @@ use crate::sheet::Sheet;
 use crate::task::MAX_STAGES;
 use crate::task::MAX_TASKS;
 use crate::task::Task;
-use crate::task::in_range;
+use work::work_in_range;
 
 impl Sheet {
     pub fn open() -> Sheet
@@ -56,7 +56,7 @@ impl Sheet {
                 if stage >= self.stage_count() {
                     return Err(SheetRefusal::Unknown);
                 }
-                if !in_range(work) {
+                if !work_in_range(work) {
                     return Err(SheetRefusal::WorkOutOfRange);
                 }
                 Ok(())
@@ -65,7 +65,7 @@ impl Sheet {
                 if !self.stands(task) {
                     return Err(SheetRefusal::Unknown);
                 }
-                if !in_range(work) {
+                if !work_in_range(work) {
                     return Err(SheetRefusal::WorkOutOfRange);
                 }
                 Ok(())

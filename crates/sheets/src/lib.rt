@@ -16,5 +16,4 @@ pub use refusal::SheetRefusalTold;
 pub use sheet::Sheet;
 pub use task::MAX_STAGES;
 pub use task::MAX_TASKS;
-pub use task::MAX_WORK;
 pub use task::Task;

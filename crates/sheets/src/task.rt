@@ -1,12 +1,10 @@
 // A task, and the limits of a sheet.
 ghost use mathlib.Core.Path.{_≡_};
-ghost use Rattle.sheets.specs.Tasks.{in-range, new-task};
+ghost use Rattle.sheets.specs.Tasks.{new-task};
 
 pub const MAX_STAGES: usize = 16;
 
 pub const MAX_TASKS: usize = 256;
-
-pub const MAX_WORK: u32 = 1_000_000;
 
 // A task that is not struck is standing.
 #[derive(Clone, Copy)]
@@ -27,10 +25,4 @@ impl Task {
             struck: false,
         }
     }
-}
-
-pub(crate) fn in_range(work: u32) -> bool
-    ensures { λ r. ⌜ r ≡ in-range work ⌝ }
-{
-    work >= 1 && work <= MAX_WORK
 }

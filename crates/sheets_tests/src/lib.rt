@@ -5,13 +5,13 @@ mod tests {
     use sheets::Call;
     use sheets::MAX_STAGES;
     use sheets::MAX_TASKS;
-    use sheets::MAX_WORK;
     use sheets::Sheet;
     use sheets::SheetRefusal;
     use sheets::SheetRefusalDebug;
     use sheets::SheetRefusalPartialEq;
     use sheets::SheetRefusalTold;
     use std::test::*;
+    use work::MAX_WORK;
 
     // A sheet with one stage.
     fn with_stage() -> Result<Sheet, Fail> {
