@@ -1,0 +1,10 @@
+pub mod Lists
+pub mod Assignment
+pub mod Front
+pub mod Allowance
+pub mod Cell
+pub mod Scan
+pub mod Limit
+pub mod Plan
+pub mod Question
+pub mod Bargain
