@@ -1,0 +1,3 @@
+pub mod TooFew
+pub mod Layout
+pub mod Memory
