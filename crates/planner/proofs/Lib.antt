@@ -1,0 +1,11 @@
+pub mod Points
+pub mod FirstRow
+pub mod Laws
+pub mod Quoting
+pub mod FirstWithin
+pub mod WithinLimit
+pub mod FirstList
+pub mod PlanBytes
+pub mod SamePoints
+pub mod Compared
+pub mod Verdicts

@@ -1,0 +1,13 @@
+use mathlib.Core.Path.{refl}
+use borrow.Author.Needs.{needs}
+use Rattle.sheets.specs.declared.call.Call.the-variants.{Budget}
+use Rattle.sheets.proofs.Histories.{known-further}
+use Rattle.planner.proofs.limits.budget.Needs as need
+
+pub returns : need.returns
+returns g c = record {
+  answer = c .answer-limit .ensures .answer;
+  cells = c .answer-limit .ensures .cells;
+  bytes = c .answer-limit .ensures .bytes;
+  known = known-further _ Budget _ refl;
+}

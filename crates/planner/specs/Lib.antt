@@ -1,0 +1,4 @@
+pub mod Refusal
+pub mod Row
+pub mod Limit
+pub mod Bargain
