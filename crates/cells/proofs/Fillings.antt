@@ -1,15 +1,17 @@
 -- Rows filled from the last to the first
 use mathlib.Core.Path.{_≡_, refl, sym, _∙_, ap, ap₂, subst}
 use mathlib.Core.Bool.{Bool, true, false, cond, _&&_}
-use mathlib.Core.List.{List, _++_}
+use mathlib.Core.List.{List}
 use mathlib.Core.Logic.{inl, inr}
 use Prim.Native.Nat.{ℕ, zero, suc, _+_, _-_, _≤_, _<_}
 use native.Mathlib.Omega.{arith}
 use lib.Dec.{leb}
-use lib.ListN.{length, getD, drop}
+use lib.ListN.{length, drop}
 use Rattle.std.specs.declared.option.Option.{Option}
 use Rattle.std.specs.declared.option.Option.the-variants.{None, Some}
+use Rattle.std.specs.declared.result.Result.the-variants.{Ok, Err}
 use Rattle.std.proofs.shelf.Tests.{and-right, cases-eq}
+use Rattle.refusals.specs.Answer.{Refused, Answer, refused-if}
 use Rattle.costs.specs.Kind.{Kind, Laws}
 use Rattle.tariffs.specs.Meaning.{Meaning, Ranged}
 use Rattle.sheets.specs.Book.{Book}
@@ -17,14 +19,14 @@ use Rattle.sheets.specs.declared.task.Task.{Task}
 use Rattle.model.specs.declared.cell.Cell.{Cell}
 use Rattle.model.specs.Assignment.{stage-tasks, standing}
 use Rattle.model.specs.Allowance.{joined, cheaper, cheapest-of, cost-within, is-time}
-use Rattle.model.specs.Cell.{cell-of, cell, least-cost, offer, table, width, cells-needed, cost-in}
+use Rattle.model.specs.Cell.{cell-of, cost-in, cell, least-cost, width}
 use Rattle.model.specs.Question.{filled}
-use Rattle.model.proofs.Loops.{cheapest-of-same, last-cell, cell-by-times, greatest-time-bound}
+use Rattle.model.proofs.Loops.{cost-in-cell, cheapest-of-same, last-cell, cell-by-times, greatest-time-bound}
 use Rattle.model.proofs.Tables.{filled-by-places}
 use Rattle.cells.specs.declared.layout.Layout.{Layout}
 use Rattle.cells.specs.Layout.{layout-of, size}
 use Rattle.cells.specs.Memory.{cell-at, row-costs, lowered, lowered-row, offer-before, stage-row, Row-written}
-use Rattle.cells.proofs.Rows.{cost-in-cell-of, lowered-cheaper, written-as, written-then}
+use Rattle.cells.proofs.Rows.{lowered-cheaper, written-as, written-then}
 
 cheapest-of-like : {C : Type 0} (K : Kind C) (f g : ℕ → Option C) → ((a : ℕ) → f a ≡ g a) → (n : ℕ) → cheapest-of K f n ≡ cheapest-of K g n
 cheapest-of-like {C = C} K f g same zero = refl
@@ -72,6 +74,15 @@ module _ {C : Type 0} (K : Kind C) (T : Meaning C) (tasks : List Task) where
             both true = refl
             both false = refl
 
+-- what a check for enough cells told
+pub few-if-refused : {A : Type 0} (few : Bool) (r : Refused) (made : A) → _≡_ {A = Answer A} (Err r) (refused-if few 7 (Ok made)) → few ≡ true
+few-if-refused true r made e = refl
+few-if-refused false r made e = let z : _≡_ {A = ℕ} 0 1 = cc in absurd (omega arith)
+
+pub enough-if-made : {A : Type 0} (few : Bool) (a made : A) → _≡_ {A = Answer A} (Ok a) (refused-if few 7 (Ok made)) → (few ≡ false) × (a ≡ made)
+enough-if-made true a made e = let z : _≡_ {A = ℕ} 0 1 = cc in absurd (omega arith)
+enough-if-made false a made e = (refl, cc)
+
 -- the rows of the stages from j on hold what they should, and memory past the cells is as it was
 pub record Filled-from {C : Type 0} (K : Kind C) (T : Meaning C) (book : Book) (layout : Layout) (from : ℕ) (before after : List (Cell C)) : Type 0 where
   pub rows : (j t : ℕ) → from ≤ j → j ≤ layout .stages → t < layout .width → cell-at K layout after j t ≡ cell K T book j t
@@ -89,7 +100,7 @@ module _ {C : Type 0} {K : Kind C} (L : Laws K) (T : Meaning C) (F : Ranged T) (
   module _ {before between after : List (Cell C)} (j : ℕ) (known : j < book .stages) (h : Filled-from K T book (layout-of T book) (j + 1) before between)
       (w : Row-written K (layout-of T book) j (stage-row K T (stage-tasks (book .tasks) j) (row-costs K (layout-of T book) between (j + 1)) 1441) between after) where
     behind : (u : ℕ) → u < width T book → row-costs K (layout-of T book) between (j + 1) u ≡ least-cost K T (drop (j + 1) (standing book)) u
-    behind u l = ap (λ (c : Cell C). cost-in c) (h .rows (j + 1) u (omega arith) (omega arith) l) ∙ cost-in-cell-of K (least-cost K T (drop (j + 1) (standing book)) u)
+    behind u l = ap (λ (c : Cell C). cost-in c) (h .rows (j + 1) u (omega arith) (omega arith) l) ∙ cost-in-cell K (least-cost K T (drop (j + 1) (standing book)) u)
 
     here : (t : ℕ) → t < width T book → cell-at K (layout-of T book) after j t ≡ cell K T book j t
     here t l =

@@ -1,20 +1,15 @@
 -- A cell lowered by what a cost within an allowance and the cell behind come to
-use mathlib.Core.Path.{_≡_, refl, sym, _∙_, ap}
+use mathlib.Core.Path.{_≡_, _∙_, ap}
 use mathlib.Core.Bool.{Bool, true, false, cond}
 use mathlib.Core.List.{List}
 use Prim.Native.Nat.{ℕ, _+_, _-_, _≤_, _<_}
-use native.Mathlib.Omega.{arith}
-use lib.Dec.{leb}
-use lib.ListN.{length, getD}
-use Rattle.std.specs.declared.option.Option.{Option}
 use Rattle.std.specs.declared.option.Option.the-variants.{None, Some}
 use Rattle.std.proofs.shelf.Tests.{le-leb, lt-leb, cond-true, cond-false}
 use Rattle.costs.specs.Kind.{Kind}
 use Rattle.model.specs.declared.cell.Cell.{Cell}
 use Rattle.model.specs.Allowance.{joined}
-use Rattle.model.specs.Cell.{cell-of, cost-in}
 use Rattle.cells.specs.declared.layout.Layout.{Layout}
-use Rattle.cells.specs.Memory.{cell-at, is-lowered, lowered, lowered-row}
+use Rattle.cells.specs.Memory.{cell-at, lowered, lowered-row}
 
 module _ {C : Type 0} (K : Kind C) (layout : Layout) (cells : List (Cell C)) (stage a : ℕ) (cost : C) (t : ℕ) where
   -- too few minutes for the allowance
@@ -29,16 +24,5 @@ module _ {C : Type 0} (K : Kind C) (layout : Layout) (cells : List (Cell C)) (st
     pub lowered-unreached : cell-at K layout cells (stage + 1) (t - a) .reached ≡ false → lowered-row K layout cells stage a cost t ≡ cell-at K layout cells stage t
     lowered-unreached r = by-behind false r
 
-    -- it was: the offer is taken where it is less
-    module _ (reached : cell-at K layout cells (stage + 1) (t - a) .reached ≡ true) (offer : C) (made : offer ≡ K .join cost (cell-at K layout cells (stage + 1) (t - a) .cost)) where
-      by-offer : (b : Bool) → is-lowered K (cell-at K layout cells stage t) offer ≡ b → lowered-row K layout cells stage a cost t ≡ cond b (cell-of K (Some offer)) (cell-at K layout cells stage t)
-      by-offer b e =
-          by-behind true reached
-          ∙ ap (λ (x : C). lowered K (cell-at K layout cells stage t) (Some x)) (sym made)
-          ∙ ap (λ (x : Bool). cond x (cell-of K (Some offer)) (cell-at K layout cells stage t)) e
-
-      pub lowered-by : is-lowered K (cell-at K layout cells stage t) offer ≡ true → lowered-row K layout cells stage a cost t ≡ cell-of K (Some offer)
-      lowered-by e = by-offer true e
-
-      pub lowered-kept : is-lowered K (cell-at K layout cells stage t) offer ≡ false → lowered-row K layout cells stage a cost t ≡ cell-at K layout cells stage t
-      lowered-kept e = by-offer false e
+    pub lowered-reached : cell-at K layout cells (stage + 1) (t - a) .reached ≡ true → lowered-row K layout cells stage a cost t ≡ lowered K (cell-at K layout cells stage t) (Some (K .join cost (cell-at K layout cells (stage + 1) (t - a) .cost)))
+    lowered-reached r = by-behind true r

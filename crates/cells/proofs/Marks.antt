@@ -12,14 +12,14 @@ use Rattle.std.specs.Iters.{counting}
 use Rattle.std.specs.declared.option.Option.{Option}
 use Rattle.std.specs.declared.option.Option.the-variants.{None, Some}
 use Rattle.std.proofs.shelf.Lists.{getD-set-same, getD-set-other, append-nil}
-use Rattle.std.proofs.shelf.Tests.{cases-eq, eq-eqb, ne-eqb, true≢false, cond-true, cond-false}
+use Rattle.std.proofs.shelf.Tests.{cases-eq, eq-eqb, ne-eqb, true≢false, cond-true, cond-false, and-right}
 use Rattle.tariffs.specs.Meaning.{Meaning}
 use Rattle.tariffs.specs.declared.quote.Quote.{Quote}
 use Rattle.sheets.specs.declared.task.Task.{Task}
 use Rattle.model.specs.Lists.{any, is-empty}
 use Rattle.model.specs.Assignment.{stands-in, stage-tasks, quote-of}
 use Rattle.model.specs.Allowance.{takes, is-time}
-use Rattle.model.proofs.Loops.{stage-tasks-more, any-append}
+use Rattle.model.proofs.Loops.{stage-tasks-more, any-append, is-empty-append}
 
 any-counted : (test : ℕ → Bool) (a n : ℕ) → any test (counting a (suc n)) ≡ (any test (counting a n) || test (a + n))
 any-counted test a zero = or-false (test a) ∙ ap test (let e : a ≡ a + 0 = omega arith in e)
@@ -80,14 +80,10 @@ module _ {C : Type 0} (T : Meaning C) where
     pub is-time-none : is-empty tasks ≡ true → (quoted-at tasks m || eqb 0 m) ≡ is-time T tasks m
     is-time-none e = ap (λ (b : Bool). b || eqb 0 m) (quoted-none tasks m e) ∙ eqb-sym 0 m ∙ sym (cond-true (is-empty tasks) (eqb m 0) (quoted-at tasks m) e)
 
-is-empty-push : (xs : List Task) (x : Task) → is-empty (xs ++ (x ∷ [])) ≡ false
-is-empty-push [] x = refl
-is-empty-push (y ∷ xs) x = refl
-
 module _ (tasks : List Task) (stage i : ℕ) (d : Task) (l : i < length tasks) where
   -- a task that does not stand in the stage adds nothing
   pub stage-tasks-past : stands-in stage (getD tasks i d) ≡ false → stage-tasks (take (i + 1) tasks) stage ≡ stage-tasks (take i tasks) stage
   stage-tasks-past e = stage-tasks-more tasks stage i d l ∙ ap (λ (b : Bool). stage-tasks (take i tasks) stage ++ cond b (getD tasks i d ∷ []) []) e ∙ append-nil (stage-tasks (take i tasks) stage)
 
   pub not-empty-more : stands-in stage (getD tasks i d) ≡ true → is-empty (stage-tasks (take (i + 1) tasks) stage) ≡ false
-  not-empty-more e = ap (λ (ts : List Task). is-empty ts) (stage-tasks-more tasks stage i d l ∙ ap (λ (b : Bool). stage-tasks (take i tasks) stage ++ cond b (getD tasks i d ∷ []) []) e) ∙ is-empty-push (stage-tasks (take i tasks) stage) (getD tasks i d)
+  not-empty-more e = ap (λ (ts : List Task). is-empty ts) (stage-tasks-more tasks stage i d l ∙ ap (λ (b : Bool). stage-tasks (take i tasks) stage ++ cond b (getD tasks i d ∷ []) []) e) ∙ is-empty-append (stage-tasks (take i tasks) stage) (getD tasks i d ∷ []) ∙ and-right (is-empty (stage-tasks (take i tasks) stage)) false refl

@@ -1,13 +1,13 @@
 -- Rows written cell by cell, and one after another
 use mathlib.Core.Path.{_≡_, refl, sym, _∙_, ap}
-use mathlib.Core.Bool.{Bool, true, false, cond, not}
+use mathlib.Core.Bool.{true, false, cond, not}
 use mathlib.Core.List.{List}
-use mathlib.Core.Logic.{_⊎_, inl, inr}
-use Prim.Native.Nat.{ℕ, _+_, _-_, _≤_, _<_}
+use mathlib.Core.Logic.{inl, inr}
+use Prim.Native.Nat.{ℕ, _+_, _≤_, _<_}
 use native.Mathlib.Omega.{arith}
 use native.Mathlib.Nat.{le-trans}
 use lib.Dec.{ltb}
-use lib.ListN.{length, getD, set, drop}
+use lib.ListN.{length, getD, set}
 use Rattle.std.specs.declared.option.Option.{Option}
 use Rattle.std.specs.declared.option.Option.the-variants.{None, Some}
 use Rattle.std.proofs.shelf.Lists.{getD-default, getD-past, getD-set-same, getD-set-other, drop-set-lt}
@@ -20,11 +20,6 @@ use Rattle.cells.specs.declared.layout.Layout.{Layout}
 use Rattle.cells.specs.Layout.{place-in, size}
 use Rattle.cells.specs.Memory.{cell-at, Row-written, lowered}
 use Rattle.cells.proofs.Places.{place-inside, place-apart}
-
--- a cell tells the cost that it was made of
-pub cost-in-cell-of : {C : Type 0} (K : Kind C) (o : Option C) → cost-in (cell-of K o) ≡ o
-cost-in-cell-of K None = refl
-cost-in-cell-of K (Some c) = refl
 
 -- lowering a cell keeps the cheaper cost
 pub lowered-cheaper : {C : Type 0} (K : Kind C) (o u : Option C) → lowered K (cell-of K o) u ≡ cell-of K (cheaper K o u)

@@ -10,7 +10,11 @@ use tariffs::Quote;
 use tariffs::Tariff;
 
 // The machine with what it quotes, if that takes no more than the allowance.
-fn within<C: Cost>(allowance: u32, machine: usize, quote: Option<Quote<C>>) -> Option<Choice<C>>
+fn choice_within<C: Cost>(
+    allowance: u32,
+    machine: usize,
+    quote: Option<Quote<C>>,
+) -> Option<Choice<C>>
     ensures { λ r. ⌜ r ≡ choice-within allowance machine quote ⌝ }
 {
     match quote {
@@ -53,7 +57,7 @@ pub fn cheapest<T: Tariff>(tariff: &T, task: &Task, allowance: u32) -> Option<Ch
     let mut best = None;
     for machine in 0..tariff.machines() {
         let quote = quote_of(tariff, task, machine);
-        best = cheaper_choice(best, within(allowance, machine, quote));
+        best = cheaper_choice(best, choice_within(allowance, machine, quote));
     }
     best
 }

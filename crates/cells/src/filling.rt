@@ -3,6 +3,7 @@ ghost use mathlib.Core.Path.{_≡_};
 ghost use Prim.Native.Nat.{_+_, _≤_, _<_};
 ghost use lib.ListN.{length};
 ghost use Rattle.std.specs.declared.result.Result.the-variants.{Ok};
+ghost use Rattle.std.specs.Vec.{made};
 ghost use Rattle.refusals.specs.Answer.{answer-of, refused-if};
 ghost use Rattle.sheets.specs.Book.{book};
 ghost use Rattle.model.specs.Assignment.{stage-tasks};
@@ -21,6 +22,22 @@ use costs::Cost;
 use model::Cell;
 use sheets::Sheet;
 use tariffs::Tariff;
+
+// The layout of the cells that a sheet needs under a tariff. Refused where there are fewer.
+pub fn check_cells<T: Tariff>(
+    sheet: &Sheet,
+    tariff: &T,
+    cells: &[Cell<T::Cost>],
+) -> Result<Layout, TooFewCells>
+    ensures answer { λ r. ⌜ answer-of too-few-told r ≡ refused-if (few-cells (T·Tariff .meaning (now (tariff .entry))) (book (now (sheet .entry))) (now (cells .entry))) 7 (Ok (layout-of (T·Tariff .meaning (now (tariff .entry))) (book (now (sheet .entry))))) ⌝ }
+    ensures room { λ r. ⌜ made r (λ layout. size layout ≤ length (now (cells .entry))) ⌝ }
+{
+    let layout = Layout::of(sheet, tariff);
+    if cells.len() < layout.size() {
+        return Err(TooFewCells);
+    }
+    Ok(layout)
+}
 
 // Fills the row of a stage; the row behind it stands already. The stage's cost within a time is reckoned once.
 fn fill_stage<T: Tariff>(
@@ -58,10 +75,7 @@ pub fn fill<T: Tariff>(
     ensures answer { λ r. ⌜ answer-of too-few-told r ≡ refused-if (few-cells (T·Tariff .meaning (now (tariff .entry))) (book (now (sheet .entry))) (now (cells .entry))) 7 (Ok (layout-of (T·Tariff .meaning (now (tariff .entry))) (book (now (sheet .entry))))) ⌝ }
     ensures after { λ _. ⌜ now (cells .exit) ≡ front-cells (Cost·Cost .kind) (T·Tariff .meaning (now (tariff .entry))) (book (now (sheet .entry))) (now (cells .entry)) ⌝ }
 {
-    let layout = Layout::of(sheet, tariff);
-    if cells.len() < layout.size() {
-        return Err(TooFewCells);
-    }
+    let layout = check_cells(sheet, tariff, cells)?;
     let nothing_left = Cell {
         reached: true,
         cost: T::Cost::neutral(),

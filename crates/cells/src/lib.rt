@@ -10,6 +10,7 @@ mod stages;
 mod times;
 
 pub use choices::cheapest;
+pub use filling::check_cells;
 pub use filling::fill;
 pub use layout::Layout;
 pub use memory::cost_at;

@@ -1,11 +1,11 @@
 // Rows of cells in memory.
 ghost use mathlib.Core.Path.{_≡_};
 ghost use Prim.Native.Nat.{_≤_, _<_};
-ghost use lib.ListN.{length, getD};
-ghost use Rattle.std.specs.declared.option.Option.the-variants.{None};
+ghost use lib.ListN.{length, getD, set};
+ghost use Rattle.std.specs.declared.option.Option.the-variants.{None, Some};
 ghost use Rattle.model.specs.Cell.{cell-of, cost-in};
 ghost use Rattle.cells.specs.Layout.{size};
-ghost use Rattle.cells.specs.Memory.{cell-at, Row-written, is-lowered, lowered-row};
+ghost use Rattle.cells.specs.Memory.{cell-at, Row-written, is-lowered, lowered, lowered-row};
 use crate::Layout;
 use costs::Cost;
 use model::Cell;
@@ -40,6 +40,19 @@ fn is_lowered<C: Cost>(cell: &Cell<C>, offer: C) -> bool
     !cell.reached || !cell.cost.at_most(offer)
 }
 
+// Lowers the cell at a place to an offer, where that is less.
+fn lower<C: Cost>(cells: &mut [Cell<C>], place: usize, offer: C)
+    requires { ⌜ place < length (now cells) ⌝ }
+    ensures { λ _. ⌜ now (cells .exit) ≡ set (now (cells .entry)) place (lowered (C·Cost .kind) (getD (now (cells .entry)) place (cell-of (C·Cost .kind) None)) (Some offer)) ⌝ }
+{
+    if is_lowered(&cells[place], offer) {
+        cells[place] = Cell {
+            reached: true,
+            cost: offer,
+        };
+    }
+}
+
 // Lowers each cell of a stage's row, from the allowance on, to what its cost within that and the cell behind it come to,
 // where that is less.
 pub(crate) fn lower_row<C: Cost>(
@@ -57,13 +70,7 @@ pub(crate) fn lower_row<C: Cost>(
         let behind = layout.place(stage + 1, minutes - allowance);
         if cells[behind].reached {
             let offer = cost.join(cells[behind].cost);
-            let here = layout.place(stage, minutes);
-            if is_lowered(&cells[here], offer) {
-                cells[here] = Cell {
-                    reached: true,
-                    cost: offer,
-                };
-            }
+            lower(cells, layout.place(stage, minutes), offer);
         }
     }
 }

@@ -2,7 +2,7 @@
 ghost use mathlib.Core.Path.{_≡_};
 ghost use Prim.Native.Nat.{_≤_};
 ghost use Rattle.sheets.specs.Book.{book};
-ghost use Rattle.model.specs.Assignment.{quote-of, stage-tasks, standing, minutes-of};
+ghost use Rattle.model.specs.Assignment.{stage-tasks, standing, minutes-of};
 ghost use Rattle.model.specs.Allowance.{greatest-time-below, greatest-time};
 ghost use Rattle.model.specs.Cell.{span};
 use crate::quote_of;
@@ -14,37 +14,37 @@ use tariffs::Quote;
 use tariffs::Tariff;
 
 // The minutes of a quote, 0 without one.
-fn minutes_of<T: Tariff>(tariff: &T, task: &Task, machine: usize) -> u32
-    ensures { λ r. ⌜ r ≡ minutes-of (quote-of (T·Tariff .meaning (now (tariff .entry))) (now (task .entry)) machine) ⌝ }
+fn minutes_of<C: Cost>(quote: Option<Quote<C>>) -> u32
+    ensures { λ r. ⌜ r ≡ minutes-of quote ⌝ }
 {
-    match quote_of(tariff, task, machine) {
+    match quote {
         Some(quote) => quote.minutes,
         None => 0,
     }
 }
 
 // The greatest time quoted to a task, 0 without any.
-fn slowest_quote<T: Tariff>(tariff: &T, task: &Task) -> u32
+fn greatest_quote<T: Tariff>(tariff: &T, task: &Task) -> u32
     ensures { λ r. ⌜ r ≡ greatest-time-below (T·Tariff .meaning (now (tariff .entry))) (now (task .entry)) (T·Tariff .meaning (now (tariff .entry)) .count) ⌝ }
 {
-    let mut slowest: u32 = 0;
+    let mut greatest: u32 = 0;
     for machine in 0..tariff.machines() {
-        slowest = slowest.max(minutes_of(tariff, task, machine));
+        greatest = greatest.max(minutes_of(quote_of(tariff, task, machine)));
     }
-    slowest
+    greatest
 }
 
 // The greatest time quoted to a standing task of a stage, 0 without any.
-fn slowest<T: Tariff>(sheet: &Sheet, tariff: &T, stage: usize) -> u32
+fn greatest_time<T: Tariff>(sheet: &Sheet, tariff: &T, stage: usize) -> u32
     ensures { λ r. ⌜ r ≡ greatest-time (T·Tariff .meaning (now (tariff .entry))) (stage-tasks (book (now (sheet .entry)) .tasks) stage) ⌝ }
 {
-    let mut slowest: u32 = 0;
+    let mut greatest: u32 = 0;
     for task in sheet.tasks() {
         if stands_in(stage, task) {
-            slowest = slowest.max(slowest_quote(tariff, task));
+            greatest = greatest.max(greatest_quote(tariff, task));
         }
     }
-    slowest
+    greatest
 }
 
 // The sum over stages of the greatest time quoted to a standing task there. No assignment is longer.
@@ -54,7 +54,7 @@ pub fn span<T: Tariff>(sheet: &Sheet, tariff: &T) -> u32
 {
     let mut span = 0;
     for stage in 0..sheet.stage_count() {
-        span += slowest(sheet, tariff, stage);
+        span += greatest_time(sheet, tariff, stage);
     }
     span
 }

@@ -1,6 +1,5 @@
 pub mod Points
 pub mod FirstRow
-pub mod Laws
 pub mod Quoting
 pub mod FirstWithin
 pub mod WithinLimit

@@ -12,8 +12,9 @@ use Rattle.costs.specs.Kind.{Kind}
 use Rattle.tariffs.specs.Meaning.{Meaning}
 use Rattle.sheets.specs.Book.{Book}
 use Rattle.sheets.specs.declared.task.Task.{Task}
+use Rattle.model.specs.declared.cell.Cell.{Cell}
 use Rattle.model.specs.declared.point.Point.{Point}
-use Rattle.model.specs.Cell.{cells-needed}
+use Rattle.model.specs.Question.{few-cells}
 use Rattle.model.specs.Limit.{lowest-unquoted, or-none-within, unless-unquoted, within-budget, within-deadline, budget-result, deadline-result}
 use Rattle.model.specs.Assignment.{standing}
 use Rattle.model.specs.Scan.{first-below}
@@ -31,9 +32,9 @@ module _ {C : Type 0} (K : Kind C) (T : Meaning C) where
   result-of book limit = unless-unquoted (lowest-unquoted T book) (or-none-within (within-limit (standing book) limit))
 
 -- what is refused before any cell is written: 7, 8 or 9
-abbrev pub limit-check : {C : Type 0} → Meaning C → Book → ℕ → ℕ → Answer (Unit {0})
+abbrev pub limit-check : {C : Type 0} → Meaning C → Book → List (Cell C) → ℕ → Answer (Unit {0})
 limit-check T book cells bytes =
-    refused-if (ltb cells (cells-needed T book)) 7
+    refused-if (few-cells T book cells) 7
     (refused-if (ltb bytes (length (book .tasks))) 8
     (elim (lowest-unquoted T book) [ Some task ↦ Err (carrying 9 task) | None ↦ Ok tt ]))
 

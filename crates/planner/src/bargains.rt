@@ -2,9 +2,8 @@
 ghost use mathlib.Core.Path.{_≡_};
 ghost use Prim.Native.Nat.{_≤_};
 ghost use mathlib.Core.Bool.{_||_};
-ghost use lib.Dec.{ltb};
 ghost use lib.ListN.{length, take};
-ghost use Rattle.model.specs.Cell.{cells-needed};
+ghost use Rattle.model.specs.Question.{few-cells};
 ghost use Rattle.refusals.specs.Answer.{answer-of};
 ghost use Rattle.sheets.specs.Book.{book};
 ghost use Rattle.sheets.specs.History.{Known-further};
@@ -55,9 +54,9 @@ fn few_for_both<T: Tariff, U: Tariff<Cost = T::Cost>>(
     first_tariff: &T,
     second: &Sheet,
     second_tariff: &U,
-    cells: usize,
+    cells: &[Cell<T::Cost>],
 ) -> bool
-    ensures { λ r. ⌜ r ≡ (ltb cells (cells-needed (T·Tariff .meaning (now («first_tariff» .entry))) (book (now (first .entry)))) || ltb cells (cells-needed (U·Tariff .meaning (now («second_tariff» .entry))) (book (now (second .entry))))) ⌝ }
+    ensures { λ r. ⌜ r ≡ (few-cells (T·Tariff .meaning (now («first_tariff» .entry))) (book (now (first .entry))) (now (cells .entry)) || few-cells (U·Tariff .meaning (now («second_tariff» .entry))) (book (now (second .entry))) (now (cells .entry))) ⌝ }
 {
     let first_few = few_cells(first, first_tariff, cells);
     let second_few = few_cells(second, second_tariff, cells);
@@ -79,7 +78,7 @@ fn compare<T: Tariff, U: Tariff<Cost = T::Cost>>(
     ensures mine { λ _. ⌜ now («first_points» .exit) ≡ bargains-mine (Cost·Cost .kind) (T·Tariff .meaning (now («first_tariff» .entry))) (book (now (first .entry))) (U·Tariff .meaning (now («second_tariff» .entry))) (book (now (second .entry))) (now (cells .entry)) (now («first_points» .entry)) (now («second_points» .entry)) ⌝ }
     ensures yours { λ _. ⌜ now («second_points» .exit) ≡ bargains-yours (Cost·Cost .kind) (T·Tariff .meaning (now («first_tariff» .entry))) (book (now (first .entry))) (U·Tariff .meaning (now («second_tariff» .entry))) (book (now (second .entry))) (now (cells .entry)) (now («first_points» .entry)) (now («second_points» .entry)) ⌝ }
 {
-    if few_for_both(first, first_tariff, second, second_tariff, cells.len()) {
+    if few_for_both(first, first_tariff, second, second_tariff, cells) {
         return Err(QuestionRefusal::TooFewCells);
     }
     let first_count = match front(first, first_tariff, cells, first_points) {

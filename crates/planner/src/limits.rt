@@ -1,15 +1,12 @@
 // The questions `budget` and `deadline`.
 ghost use mathlib.Core.Path.{_≡_};
 ghost use Prim.Native.Nat.{_<_};
-ghost use lib.Dec.{ltb};
-ghost use lib.ListN.{length};
 ghost use Rattle.std.specs.Options.{Cases};
 ghost use Rattle.refusals.specs.Answer.{answer-of};
 ghost use Rattle.sheets.specs.Book.{book};
 ghost use Rattle.sheets.specs.History.{Known-further};
-ghost use Rattle.model.specs.Cell.{cells-needed};
 ghost use Rattle.model.specs.Limit.{unquoted, lowest-unquoted};
-ghost use Rattle.model.specs.Question.{limit-answer, limit-cells, limit-bytes, budget-answer, budget-bytes, deadline-answer, deadline-bytes};
+ghost use Rattle.model.specs.Question.{few-cells, limit-answer, limit-cells, limit-bytes, budget-answer, budget-bytes, deadline-answer, deadline-bytes};
 ghost use Rattle.model.specs.Scan.{first-below};
 ghost use Rattle.planner.specs.Limit.{result-of, limit-check, row-within};
 ghost use Rattle.planner.specs.Refusal.{question-told};
@@ -19,6 +16,7 @@ use crate::limit::Limit;
 use crate::plan::write_plan;
 use cells::Layout;
 use cells::cheapest;
+use cells::check_cells;
 use cells::cost_at;
 use cells::fill;
 use costs::Cost;
@@ -33,10 +31,13 @@ use tariffs::Tariff;
 const MAX_MINUTES: u32 = 1_440;
 
 // Whether there are fewer cells than a question on the sheet needs.
-pub(crate) fn few_cells<T: Tariff>(sheet: &Sheet, tariff: &T, cells: usize) -> bool
-    ensures { λ r. ⌜ r ≡ ltb cells (cells-needed (T·Tariff .meaning (now (tariff .entry))) (book (now (sheet .entry)))) ⌝ }
+pub(crate) fn few_cells<T: Tariff>(sheet: &Sheet, tariff: &T, cells: &[Cell<T::Cost>]) -> bool
+    ensures { λ r. ⌜ r ≡ few-cells (T·Tariff .meaning (now (tariff .entry))) (book (now (sheet .entry))) (now (cells .entry)) ⌝ }
 {
-    cells < Layout::of(sheet, tariff).size()
+    match check_cells(sheet, tariff, cells) {
+        Ok(_) => false,
+        Err(_) => true,
+    }
 }
 
 // Whether the task stands and no machine quotes it.
@@ -68,10 +69,10 @@ fn lowest_unquoted<T: Tariff>(sheet: &Sheet, tariff: &T) -> Option<usize>
 fn check<T: Tariff>(
     sheet: &Sheet,
     tariff: &T,
-    cells: usize,
+    cells: &[Cell<T::Cost>],
     bytes: usize,
 ) -> Result<(), QuestionRefusal>
-    ensures { λ r. ⌜ answer-of question-told r ≡ limit-check (T·Tariff .meaning (now (tariff .entry))) (book (now (sheet .entry))) cells bytes ⌝ }
+    ensures { λ r. ⌜ answer-of question-told r ≡ limit-check (T·Tariff .meaning (now (tariff .entry))) (book (now (sheet .entry))) (now (cells .entry)) bytes ⌝ }
 {
     if few_cells(sheet, tariff, cells) {
         return Err(QuestionRefusal::TooFewCells);
@@ -132,7 +133,7 @@ fn answer_limit<T: Tariff>(
     ensures cells { λ _. ⌜ now (cells .exit) ≡ limit-cells (Cost·Cost .kind) (T·Tariff .meaning (now (tariff .entry))) (book (now (sheet .entry))) (now (cells .entry)) (now (bytes .entry)) ⌝ }
     ensures bytes { λ _. ⌜ now (bytes .exit) ≡ limit-bytes (Cost·Cost .kind) (T·Tariff .meaning (now (tariff .entry))) (book (now (sheet .entry))) (limit-answer (T·Tariff .meaning (now (tariff .entry))) (book (now (sheet .entry))) (now (cells .entry)) (now (bytes .entry)) (result-of (Cost·Cost .kind) (T·Tariff .meaning (now (tariff .entry))) (book (now (sheet .entry))) limit)) (now (bytes .entry)) ⌝ }
 {
-    check(sheet, tariff, cells.len(), bytes.len())?;
+    check(sheet, tariff, cells, bytes.len())?;
     let layout = match fill(sheet, tariff, cells) {
         Ok(layout) => layout,
         Err(_) => return Err(QuestionRefusal::TooFewCells),

@@ -11,7 +11,7 @@ use tariffs::Tariff;
 
 impl Layout {
     // The layout of the cells for a sheet under a tariff.
-    pub fn of<T: Tariff>(sheet: &Sheet, tariff: &T) -> Layout
+    pub(crate) fn of<T: Tariff>(sheet: &Sheet, tariff: &T) -> Layout
         ensures { λ r. ⌜ r ≡ layout-of (T·Tariff .meaning (now (tariff .entry))) (book (now (sheet .entry))) ⌝ }
     {
         Layout {
@@ -21,7 +21,7 @@ impl Layout {
     }
 
     // Where the cell of the stages from this one on within so many minutes stands. No other place is reckoned anywhere.
-    pub fn place(self, stage: u32, minutes: u32) -> usize
+    pub(crate) fn place(self, stage: u32, minutes: u32) -> usize
         ensures value { λ r. ⌜ r ≡ place-in self stage minutes ⌝ }
         ensures inside { λ r. ⌜ (stage ≤ self .stages → minutes < self .width → r < size self) ⌝ }
     {
@@ -29,7 +29,7 @@ impl Layout {
     }
 
     // How many cells there are.
-    pub fn size(self) -> usize
+    pub(crate) fn size(self) -> usize
         ensures { λ r. ⌜ r ≡ size self ⌝ }
     {
         (self.stages as usize + 1) * self.width as usize

@@ -1,16 +1,11 @@
 use mathlib.Core.Path.{_≡_, sym, _∙_, ap}
-use mathlib.Core.Bool.{true, false}
-use mathlib.Core.List.{List}
-use Prim.Native.Nat.{ℕ, _+_, _<_, _≤_}
+use Prim.Native.Nat.{ℕ, _+_}
 use native.Mathlib.Omega.{arith}
-use lib.ListN.{getD}
-use Rattle.std.specs.declared.option.Option.the-variants.{Some, None}
 use Rattle.sheets.specs.Book.{book}
 use Rattle.model.specs.Assignment.{stage-tasks}
-use Rattle.model.specs.Allowance.{is-time}
 use Rattle.model.specs.declared.cell.Cell.{Cell}
 use Rattle.model.specs.Cell.{cost-in}
-use Rattle.cells.specs.Memory.{row-costs, stage-row, Row-written}
+use Rattle.cells.specs.Memory.{row-costs, stage-row}
 use Rattle.cells.proofs.Rows.{written-as, written-then}
 use Rattle.cells.proofs.Fillings.{stage-row-like, row-none, row-untimed, row-costless, row-lowered}
 use Rattle.cells.proofs.filling.fill_stage.Needs as need

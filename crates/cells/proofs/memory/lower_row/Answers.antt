@@ -1,4 +1,5 @@
-use mathlib.Core.Path.{_≡_, refl, sym, _∙_, ap}
+use mathlib.Core.Path.{_≡_, sym, _∙_, ap, ap₂}
+use mathlib.Core.Bool.{Bool, true, false}
 use Prim.Native.Nat.{ℕ, _+_, _-_, _<_, _≤_}
 use native.Mathlib.Omega.{arith}
 use lib.ListN.{length, getD}
@@ -7,11 +8,11 @@ use Rattle.std.proofs.shelf.Lists.{getD-default}
 use Rattle.model.specs.declared.cell.Cell.{Cell}
 use Rattle.model.specs.Cell.{cell-of}
 use Rattle.cells.specs.Layout.{size}
-use Rattle.cells.specs.Memory.{cell-at, is-lowered, lowered-row}
-use Rattle.cells.proofs.Lowerings.{lowered-late, lowered-unreached, lowered-by, lowered-kept}
+use Rattle.cells.specs.Memory.{cell-at, lowered, lowered-row}
+use Rattle.cells.proofs.Lowerings.{lowered-late, lowered-unreached, lowered-reached}
 use Rattle.cells.proofs.Rows.{written-none, written-more, written-past, written-all, still}
 use Rattle.cells.proofs.memory.lower_row.Needs as need
-use Rattle.cells.proofs.memory.lower_row.Needs.{then-cells-behind·then-is-lowered, then-cells-behind·else-is-lowered, else-cells-behind}
+use Rattle.cells.proofs.memory.lower_row.Needs.{then-cells-behind, else-cells-behind}
 
 pub loop-minutes-holds : need.loop-minutes-holds
 loop-minutes-holds g c =
@@ -29,34 +30,21 @@ loop-minutes-again g c =
     let allowed : c .args .allowance ≤ c .loop-minutes .minutes = omega arith in
     let room : size (c .args .layout) ≤ length (c .loop-minutes .cells) = omega arith in
     let inside : c .place-behind .result < length (c .loop-minutes .cells) = omega (arith, c .place-behind .ensures .inside (omega arith) (omega arith)) in
+    -- the row behind is as it was
     let behind : (d : Cell (g .C .Denot)) → getD (c .loop-minutes .cells) (c .place-behind .result) d ≡ cell-at (g .C·Cost .kind) (c .args .layout) (c .args .cells .now) (c .args .stage + 1) (c .loop-minutes .minutes - c .args .allowance) =
     λ d. getD-default cells (c .place-behind .result) d (cell-of K None) inside
     ∙ ap (λ (i : ℕ). getD cells i (cell-of K None)) (c .place-behind .ensures .value)
     ∙ c .loop-minutes .inv .elsewhere (c .args .stage + 1) (c .loop-minutes .minutes - c .args .allowance) (omega arith) (omega arith) (omega arith) in
+    let reached : (b : Bool) → getD (c .loop-minutes .cells) (c .place-behind .result) (c .index-cells-behind .result) .reached ≡ b → cell-at (g .C·Cost .kind) (c .args .layout) (c .args .cells .now) (c .args .stage + 1) (c .loop-minutes .minutes - c .args .allowance) .reached ≡ b =
+    λ b e. ap (λ (cell : Cell (g .C .Denot)). cell .reached) (sym (behind (c .index-cells-behind .result))) ∙ e in
     elim (c .if-cells-behind .came) [
-      | then-cells-behind·then-is-lowered w ↦
-          let reached = ap (λ (cell : Cell (g .C .Denot)). cell .reached) (sym (behind (c .index-cells-behind .result))) ∙ w .if-cells-behind .taken in
-          let made = w .join-offer .ensures ∙ ap (λ (cell : Cell (g .C .Denot)). K .join (c .args .cost) (cell .cost)) (behind (w .index-cells-behind-then-cells-behind .result)) in
-          let here : getD (c .loop-minutes .cells) (w .place-here .result) (w .index-cells-here .result) ≡ cell-at (g .C·Cost .kind) (c .args .layout) (c .args .cells .now) (c .args .stage) (c .loop-minutes .minutes) =
-          getD-default cells (w .place-here .result) (w .index-cells-here .result) (cell-of K None) (omega (arith, w .place-here .ensures .inside (omega arith) (c .loop-minutes-test .taken)))
-          ∙ ap (λ (i : ℕ). getD cells i (cell-of K None)) (w .place-here .ensures .value)
-          ∙ still new m (c .loop-minutes .inv) (c .loop-minutes-test .taken) in
-          let less = ap (λ (cell : Cell (g .C .Denot)). is-lowered K cell (w .join-offer .result)) (sym here) ∙ sym (w .is-lowered .ensures) ∙ w .if-is-lowered .taken in
-          rw (w .cells-is, w .place-here .ensures .value) (written-more new m (c .loop-minutes .inv) (cell-of K (Some (w .join-offer .result))) (omega arith) (c .loop-minutes-test .taken) room
-          (lowered-by K (c .args .layout) before (c .args .stage) a (c .args .cost) m allowed reached (w .join-offer .result) made less))
-      | then-cells-behind·else-is-lowered w ↦
-          let reached = ap (λ (cell : Cell (g .C .Denot)). cell .reached) (sym (behind (c .index-cells-behind .result))) ∙ w .if-cells-behind .taken in
-          let made = w .join-offer .ensures ∙ ap (λ (cell : Cell (g .C .Denot)). K .join (c .args .cost) (cell .cost)) (behind (w .index-cells-behind-then-cells-behind .result)) in
-          let here : getD (c .loop-minutes .cells) (w .place-here .result) (w .index-cells-here .result) ≡ cell-at (g .C·Cost .kind) (c .args .layout) (c .args .cells .now) (c .args .stage) (c .loop-minutes .minutes) =
-          getD-default cells (w .place-here .result) (w .index-cells-here .result) (cell-of K None) (omega (arith, w .place-here .ensures .inside (omega arith) (c .loop-minutes-test .taken)))
-          ∙ ap (λ (i : ℕ). getD cells i (cell-of K None)) (w .place-here .ensures .value)
-          ∙ still new m (c .loop-minutes .inv) (c .loop-minutes-test .taken) in
-          let less = ap (λ (cell : Cell (g .C .Denot)). is-lowered K cell (w .join-offer .result)) (sym here) ∙ sym (w .is-lowered .ensures) ∙ w .if-is-lowered .left in
-          rw (w .cells-is) (written-past new m (c .loop-minutes .inv)
-          (lowered-kept K (c .args .layout) before (c .args .stage) a (c .args .cost) m allowed reached (w .join-offer .result) made less))
-      | else-cells-behind w ↦
-          let reached = ap (λ (cell : Cell (g .C .Denot)). cell .reached) (sym (behind (c .index-cells-behind .result))) ∙ w .if-cells-behind .left in
-          rw (w .cells-is) (written-past new m (c .loop-minutes .inv) (lowered-unreached K (c .args .layout) before (c .args .stage) a (c .args .cost) m allowed reached))
+      | then-cells-behind w ↦
+          let offer = w .join-offer .ensures ∙ ap (λ (cell : Cell (g .C .Denot)). K .join (c .args .cost) (cell .cost)) (behind (w .index-cells-behind-then-cells-behind .result)) in
+          let here = still new m (c .loop-minutes .inv) (c .loop-minutes-test .taken) in
+          rw (w .cells-is, w .lower .ensures, w .place .ensures .value) (written-more new m (c .loop-minutes .inv) (lowered K (cell-at K (c .args .layout) cells (c .args .stage) m) (Some (w .join-offer .result))) (omega arith) (c .loop-minutes-test .taken) room
+          (lowered-reached K (c .args .layout) before (c .args .stage) a (c .args .cost) m allowed (reached true (w .if-cells-behind .taken))
+          ∙ sym (ap₂ (λ (cell : Cell (g .C .Denot)) (o : g .C .Denot). lowered K cell (Some o)) here offer)))
+      | else-cells-behind w ↦ rw (w .cells-is) (written-past new m (c .loop-minutes .inv) (lowered-unreached K (c .args .layout) before (c .args .stage) a (c .args .cost) m allowed (reached false (w .if-cells-behind .left))))
     ]
 
 pub returns : need.returns

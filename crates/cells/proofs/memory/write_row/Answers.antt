@@ -1,13 +1,6 @@
-use mathlib.Core.Path.{_≡_, refl, ap}
-use mathlib.Core.List.{List}
-use Prim.Native.Nat.{ℕ, _<_, _≤_, _+_}
+use mathlib.Core.Path.{refl}
 use native.Mathlib.Omega.{arith}
-use borrow.Author.Needs.{needs}
-use lib.ListN.{length, set}
-use Rattle.model.specs.declared.cell.Cell.{Cell}
-use Rattle.cells.specs.Memory.{cell-at, Row-written}
-use Rattle.cells.proofs.Places.{place-inside}
-use Rattle.cells.proofs.Rows.{up-to, written-none, written-more, written-all}
+use Rattle.cells.proofs.Rows.{written-none, written-more, written-all}
 use Rattle.cells.proofs.memory.write_row.Needs as need
 
 pub loop-minutes-holds : need.loop-minutes-holds

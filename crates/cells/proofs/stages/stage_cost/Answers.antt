@@ -1,9 +1,5 @@
-use mathlib.Core.Path.{_≡_, sym, ap, _∙_}
-use borrow.Author.Needs.{needs}
-use Rattle.std.specs.declared.option.Option.the-variants.{Some, None}
+use mathlib.Core.Path.{sym, ap, _∙_}
 use Rattle.sheets.specs.Tasks.{no-task}
-use Rattle.model.specs.Assignment.{stands-in, stage-tasks}
-use Rattle.model.specs.Allowance.{cheapest, cost-within}
 use Rattle.cells.proofs.Laws.{laws-of}
 use Rattle.cells.proofs.StageCosts.{with-rest, with-all, with-none, with-rest-past, with-rest-more, with-rest-stopped}
 use Rattle.cells.proofs.stages.stage_cost.Needs as need

@@ -1,15 +1,12 @@
-use mathlib.Core.Path.{_≡_, refl, sym, _∙_, ap, ap₂}
-use mathlib.Core.Bool.{Bool, true, false, _||_}
+use mathlib.Core.Path.{refl, sym, _∙_, ap}
+use mathlib.Core.Bool.{Bool, false, _||_}
 use mathlib.Core.List.{List}
-use Prim.Native.Nat.{ℕ, _<_, _+_}
 use native.Mathlib.Omega.{arith}
-use borrow.Author.Needs.{needs}
 use lib.Dec.{eqb}
 use lib.ListN.{getD, length, take}
 use Rattle.std.specs.Iters.{counting}
 use Rattle.std.proofs.shelf.Lists.{take-all, length-replicate, getD-replicate}
 use Rattle.sheets.specs.Tasks.{no-task}
-use Rattle.sheets.specs.Book.{book}
 use Rattle.sheets.specs.declared.task.Task.{Task}
 use Rattle.model.specs.Lists.{any, is-empty}
 use Rattle.model.specs.Assignment.{stage-tasks}

@@ -1,7 +1,7 @@
 use mathlib.Core.Path.{refl}
 use Rattle.sheets.specs.declared.call.Call.the-variants.{Front}
 use Rattle.sheets.proofs.Histories.{known-further}
-use Rattle.planner.proofs.Laws.{laws-of}
+use Rattle.cells.proofs.Laws.{laws-of}
 use Rattle.planner.proofs.Verdicts.{bargains-agree, verdict-holds}
 use Rattle.planner.proofs.bargains.same_bargains.Needs as need
 

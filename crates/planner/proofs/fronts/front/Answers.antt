@@ -14,7 +14,7 @@ use Rattle.model.specs.Front.{front}
 use Rattle.model.specs.Question.{few-cells, filled}
 use Rattle.model.specs.Scan.{drops-below}
 use Rattle.cells.specs.Memory.{row-costs}
-use Rattle.planner.proofs.Laws.{laws-of}
+use Rattle.cells.proofs.Laws.{laws-of}
 use Rattle.planner.proofs.FirstRow.{few-from-refused, enough-from-filled, row-is-front, front-refused-7, points-kept-7, cells-filled, front-refused-8, points-kept-8, front-answered, points-written}
 use Rattle.planner.proofs.fronts.front.Given as given
 use Rattle.planner.proofs.fronts.front.Needs as need

@@ -18,7 +18,7 @@ use Rattle.model.specs.Plan.{plan}
 use Rattle.model.specs.Question.{few-cells, short-plan, limit-bytes}
 use Rattle.planner.specs.Limit.{within-limit, result-of}
 use Rattle.planner.specs.Row.{Holds-least-costs}
-use Rattle.planner.proofs.Laws.{laws-of}
+use Rattle.cells.proofs.Laws.{laws-of}
 use Rattle.planner.proofs.FirstRow.{enough-from-filled, cells-filled}
 use Rattle.planner.proofs.WithinLimit.{filled-hold, row-tells, let-through, limit-let-through, cells-let-through}
 use Rattle.planner.proofs.limits.answer_limit.Given as given

@@ -1,4 +1,3 @@
-use mathlib.Core.Path.{_≡_, refl}
 use borrow.Author.Needs.{needs}
 use Rattle.cells.proofs.Places.{place-inside}
 use Rattle.cells.proofs.layout.Layout.place.Needs as need

@@ -1,15 +1,13 @@
-use mathlib.Core.Path.{_≡_, sym, ap, _∙_}
+use mathlib.Core.Path.{sym, ap, _∙_}
 use mathlib.Core.List.{List}
-use Prim.Native.Nat.{_+_}
-use lib.ListN.{take}
 use Rattle.std.proofs.shelf.Lists.{take-all}
 use Rattle.sheets.specs.Tasks.{no-task}
 use Rattle.sheets.specs.declared.task.Task.{Task}
 use Rattle.model.specs.Assignment.{stage-tasks}
 use Rattle.model.specs.Allowance.{greatest-time}
 use Rattle.model.proofs.Loops.{greatest-time-more}
-use Rattle.cells.proofs.spans.slowest.Needs as need
-use Rattle.cells.proofs.spans.slowest.Needs.{then-stands-in, else-stands-in}
+use Rattle.cells.proofs.spans.greatest_time.Needs as need
+use Rattle.cells.proofs.spans.greatest_time.Needs.{then-stands-in, else-stands-in}
 
 pub loop-task-again : need.loop-task-again
 loop-task-again g c =
