@@ -13,6 +13,7 @@ pub mod Scans
 pub mod FirstLists
 pub mod Unquoted
 pub mod LimitsInWords
+pub mod Shares
 pub mod Plans
 pub mod Bargains
 pub mod Loops

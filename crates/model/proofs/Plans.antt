@@ -26,9 +26,10 @@ use Rattle.model.specs.declared.choice.Choice.{Choice}
 use Rattle.model.specs.declared.point.Point.{Point}
 use Rattle.model.specs.Lists.{In, here, later, Paired, total}
 use Rattle.model.specs.Assignment.{stands-in, stage-tasks, standing, Quoted, Is-assignment, charge-of, stage-time, stage-cost, length-of, cost-of, pair-of, pairs, Has-pair}
+use Rattle.model.proofs.Shares.{bought-assigns, bought-affords, shares-of}
 use Rattle.model.specs.Allowance.{cheapest, cost-within, Is-cheapest}
 use Rattle.model.specs.Limit.{Is-budget, Is-deadline}
-use Rattle.model.specs.Plan.{struck-byte, machine-or, list-cost, Is-first, allowances-for, byte-under, plan, stage-machines, machines-of, Is-plan, Plans-go-by-the-first-list, Limits-are-shared-out, join-all, Within-shares}
+use Rattle.model.specs.Plan.{struck-byte, machine-or, list-cost, Is-first, allowances-for, byte-under, plan, stage-machines, machines-of, Is-plan, Plans-go-by-the-first-list, Limits-are-shared-out, join-all, Within-shares, joined-shares, machines-bought}
 use Rattle.model.proofs.Assignments.{in-pairs, of-pairs, in-stage, of-stage}
 use Rattle.model.proofs.Fronts.{Best, same-point, no-worse-from, no-longer, no-dearer}
 use Rattle.model.proofs.LeastCosts.{at-most-refl, join-mono, reached}
@@ -283,6 +284,14 @@ module _ {C : Type 0} {K : Kind C} (L : Laws K) where
             let s = cost-of-shares L T (standing b) shares l w in
             let q = list-pair L T F (standing b) l (s .0) (s .1) in
             le-trans (h .shortest (q .0) (q .1) (L .transitive _ _ _ (q .3) (L .transitive _ _ _ (s .2) m))) (q .2);
+        tasks-reached = λ c p e.
+            let h = budget-words L T F b (book-sound calls) c p .1 e in
+            let s = shares-of L T (standing b) (h .has .0) (h .has .1) in
+            let pays : joined-shares K (s .shares) ≡ p .cost = s .joins ∙ sym (ap (λ (q : Point C). q .cost) (h .has .2)) in
+            (s .shares, subst (λ (x : C). K .at-most x c ≡ true) (sym pays) (h .within), s .bought, ap (length-of T (standing b)) (s .machines) ∙ sym (ap (λ (q : Point C). q .length) (h .has .2)));
+        tasks-least = λ c p e shares m bought.
+            let h = budget-words L T F b (book-sound calls) c p .1 e in
+            h .shortest (pair-of K T (standing b) (machines-bought shares)) (machines-bought shares, bought-assigns L T (standing b) shares bought, refl) (L .transitive _ _ _ (bought-affords L T (standing b) shares bought) m);
         deadline-none = λ d e l c s k.
             let n = none-in-time L T F b d .1 e .1 in
             let q = list-pair L T F (standing b) l c k in

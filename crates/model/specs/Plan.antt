@@ -17,10 +17,11 @@ use Rattle.sheets.specs.Book.{Book}
 use Rattle.sheets.specs.History.{book-after}
 use Rattle.sheets.specs.declared.call.Call.{Call}
 use Rattle.sheets.specs.declared.task.Task.{Task}
+use Rattle.tariffs.specs.declared.quote.Quote.{Quote}
 use Rattle.model.specs.declared.choice.Choice.{Choice}
 use Rattle.model.specs.declared.point.Point.{Point}
-use Rattle.model.specs.Lists.{total}
-use Rattle.model.specs.Assignment.{standing, stands-in, quote-of, Is-assignment, charge-of, cost-of, pair-of}
+use Rattle.model.specs.Lists.{total, Paired}
+use Rattle.model.specs.Assignment.{standing, stands-in, quote-of, Is-assignment, length-of, charge-of, cost-of, pair-of}
 use Rattle.model.specs.Allowance.{joined, cheapest, cost-within, Is-cheapest}
 use Rattle.model.specs.Cell.{least-cost}
 use Rattle.model.specs.Limit.{budget-result, deadline-result}
@@ -157,6 +158,17 @@ Within-shares K T (tasks ∷ stages) (share ∷ shares) [] = ⊥
 Within-shares {C} K T (tasks ∷ stages) (share ∷ shares) (a ∷ allowances) =
     ((c : C) × (cost-within K T tasks a ≡ Some c) × (K .at-most c share ≡ true)) × Within-shares K T stages shares allowances
 
+-- a task takes a machine with its share: the quote costs at most the share
+abbrev pub Bought : {C : Type 0} → Kind C → Meaning C → Task → (C × ℕ) → Type 0
+Bought {C} K T task share = (q : Quote C) × (quote-of T task (share .1) ≡ Some q) × (K .at-most (q .cost) (share .0) ≡ true)
+
+-- the join of all tasks' shares, and the machines that they take
+abbrev pub joined-shares : {C : Type 0} → Kind C → List (List (C × ℕ)) → C
+joined-shares K shares = join-all K (map (λ stage. join-all K (map (λ share. share .0) stage)) shares)
+
+abbrev pub machines-bought : {C : Type 0} → List (List (C × ℕ)) → List (List ℕ)
+machines-bought shares = map (λ stage. map (λ share. share .1) stage) shares
+
 -- limits shared out among the stages: the cost under a deadline is the least over allowance lists within it; the length
 -- under a budget is the least total of an allowance list whose joined stage costs are within it
 pub record Shared-out {C : Type 0} (K : Kind C) (T : Meaning C) (book : Book) : Type 0 where
@@ -173,6 +185,11 @@ pub record Shared-out {C : Type 0} (K : Kind C) (T : Meaning C) (book : Book) : 
       (shares : List C) × (allowances : List ℕ) × (K .at-most (join-all K shares) limit ≡ true) × Within-shares K T (standing book) shares allowances × (total allowances ≡ p .length)
   pub shares-least : (limit : C) (p : Point C) → budget-result K T book limit ≡ Ok p →
       (shares : List C) (allowances : List ℕ) → K .at-most (join-all K shares) limit ≡ true → Within-shares K T (standing book) shares allowances → p .length ≤ total allowances
+  -- the same over all ways to share the budget out among stages and tasks
+  pub tasks-reached : (limit : C) (p : Point C) → budget-result K T book limit ≡ Ok p →
+      (shares : List (List (C × ℕ))) × (K .at-most (joined-shares K shares) limit ≡ true) × Paired (Paired (Bought K T)) (standing book) shares × (length-of T (standing book) (machines-bought shares) ≡ p .length)
+  pub tasks-least : (limit : C) (p : Point C) → budget-result K T book limit ≡ Ok p →
+      (shares : List (List (C × ℕ))) → K .at-most (joined-shares K shares) limit ≡ true → Paired (Paired (Bought K T)) (standing book) shares → p .length ≤ length-of T (standing book) (machines-bought shares)
   -- refusal 10: no list is within the limit
   pub deadline-none : (limit : ℕ) → deadline-result K T book limit ≡ Err (plain 10) →
       (allowances : List ℕ) (c : C) → total allowances ≤ limit → list-cost K T (standing book) allowances ≡ Some c → ⊥
