@@ -1,0 +1,11 @@
+// Examples and limits of the planner's questions.
+#[cfg(test)]
+mod bargains;
+#[cfg(test)]
+mod fronts;
+#[cfg(test)]
+mod limits;
+#[cfg(test)]
+mod plans;
+#[cfg(test)]
+mod samples;
