@@ -237,11 +237,78 @@ fn too_few_bytes_are_told_before_a_task_without_quotes() -> Result<(), Fail> {
         ask_budget(&partly_unquoted(), &card_a(), 1000, &mut cells, &mut bytes),
         Err(QuestionRefusal::TooShort),
     )?;
+    check(bytes == [9; 3] && all_used(&cells))
+}
+
+#[test]
+fn an_empty_card_quotes_nothing() -> Result<(), Fail> {
+    let mut cells = [used_cell(); 2];
+    let mut bytes = [9; 1];
+    check_eq(
+        ask_budget(&sheet_of_one(7), &card(&[]), 5, &mut cells, &mut bytes),
+        Err(QuestionRefusal::Unquoted(0)),
+    )?;
     check_eq(
         ask_deadline(&sheet_of_one(7), &card(&[]), 5, &mut cells, &mut bytes),
         Err(QuestionRefusal::Unquoted(0)),
     )?;
-    check(bytes == [9; 3] && all_used(&cells))
+    check(bytes == [9; 1] && all_used(&cells))
+}
+
+// 16 stages of 16 tasks of one unit each.
+fn largest_sheet() -> Sheet {
+    let mut sheet = Sheet::open();
+    for _ in 0..16 {
+        let _ = sheet.stage();
+    }
+    for number in 0..256 {
+        let _ = sheet.task(number % 16, 1);
+    }
+    sheet
+}
+
+#[test]
+fn the_largest_sheet_is_planned() -> Result<(), Fail> {
+    let mut cells = [used_cell(); 289];
+    let mut bytes = [9; 256];
+    check_eq(
+        ask_budget(
+            &largest_sheet(),
+            &card(&[(1, 601), (1, 600)]),
+            2560,
+            &mut cells,
+            &mut bytes,
+        ),
+        Ok((16, 2560)),
+    )?;
+    check(bytes == [1; 256])
+}
+
+#[test]
+fn a_day_is_the_longest_stage() -> Result<(), Fail> {
+    let mut cells = [used_cell(); 2880];
+    let mut bytes = [9; 1];
+    check_eq(
+        ask_budget(
+            &sheet_of_one(1_000_000),
+            &card(&[(694, 100), (695, 100)]),
+            2399,
+            &mut cells,
+            &mut bytes,
+        ),
+        Ok((1439, 2399)),
+    )?;
+    check(bytes == [1])?;
+    check_eq(
+        ask_deadline(
+            &sheet_of_one(1_000_000),
+            &card(&[(694, 100), (695, 100)]),
+            1438,
+            &mut cells,
+            &mut bytes,
+        ),
+        Err(QuestionRefusal::NoneWithin),
+    )
 }
 
 #[test]

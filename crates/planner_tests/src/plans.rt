@@ -85,6 +85,27 @@ fn of_equal_costs_the_lowest_machine_is_taken() -> Result<(), Fail> {
     check(bytes == [1, 1, 1])
 }
 
+#[test]
+fn questions_share_their_memory() -> Result<(), Fail> {
+    let mut cells = [used_cell(); 51];
+    let mut bytes = [9; 3];
+    let (sheet, card) = (sheet_x(), card_a());
+    check_eq(
+        ask_budget(&sheet, &card, 399, &mut cells, &mut bytes),
+        Ok((4, 375)),
+    )?;
+    check_eq(
+        ask_deadline(&sheet, &card, 12, &mut cells, &mut bytes),
+        Ok((12, 245)),
+    )?;
+    check(bytes == [1, 0, 0])?;
+    check_eq(
+        ask_deadline(&sheet, &card, 2, &mut cells, &mut bytes),
+        Err(QuestionRefusal::NoneWithin),
+    )?;
+    check(bytes == [1, 0, 0])
+}
+
 // A plan by grades in fresh memory.
 fn graded(
     sheet: &Sheet,

@@ -1,0 +1,3 @@
+pub mod OnReadings
+pub mod OnPuts
+pub mod OnWorks

@@ -1,0 +1,5 @@
+pub mod Reading
+pub mod Refusal
+pub mod Card
+pub mod Sheet
+pub mod Works
