@@ -3,3 +3,4 @@ pub mod Refusal
 pub mod Card
 pub mod Sheet
 pub mod Works
+pub mod Files

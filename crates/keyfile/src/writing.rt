@@ -10,6 +10,7 @@ ghost use Rattle.texts.specs.Write.{write-answer, write-after};
 ghost use Rattle.numbers.specs.Number.{spelled};
 ghost use Rattle.numbers.specs.Putting.{Puts};
 ghost use Rattle.sheets.specs.Book.{book};
+ghost use Rattle.keyfile.specs.Files.{What-is-written-is-read-again};
 ghost use Rattle.keyfile.specs.Works.{stands-in, stage-works, works-by-stage, spelled-stage, spelled-sheet};
 use numbers::number_len;
 use numbers::put_number;
@@ -128,6 +129,7 @@ fn put_sheet(sheet: &Sheet, memory: &mut [u8]) -> Result<usize, TooShort>
 pub fn write_sheet(sheet: &Sheet, memory: &mut [u8]) -> Result<usize, TooShort>
     ensures answer { λ r. ⌜ answer-of too-short-told r ≡ write-answer (spelled-sheet (works-by-stage (book (now (sheet .entry))))) (now (memory .entry)) ⌝ }
     ensures after { λ _. ⌜ now (memory .exit) ≡ write-after (spelled-sheet (works-by-stage (book (now (sheet .entry))))) (now (memory .entry)) ⌝ }
+    ensures read_again { λ _. ⌜ What-is-written-is-read-again ⌝ }
 {
     if memory.len() < sheet_len(sheet) {
         return Err(TooShort);
