@@ -53,6 +53,10 @@ module _ (was : List ℕ) (from : ℕ) (text memory : List ℕ) (end : ℕ) (lef
       let p = begun .put in
       omega (arith, p .ends, p .long)
 
+-- a text does not fit where its first piece does not
+pub first-short : (was p q : List ℕ) (at : ℕ) → length was < at + length p → length was < at + length (p ++ q)
+first-short was p q at short = let l = length-append p q in omega arith
+
 -- a piece behind one that was put
 pub puts-then : (was mid after p q : List ℕ) (at end : ℕ) (r : Result ℕ TooShort) → Put was at p mid end → Puts mid end q after r → Puts was at (p ++ q) after r
 puts-then was mid after p q at end (Ok behind) first second = put-then _ _ _ _ _ _ _ _ first second

@@ -85,6 +85,7 @@ pub behind-spelled : (more n : ℕ) (rest : List ℕ) → drop (size more (group
 behind-spelled more n rest = drop-at (groups more n) rest _ (sym (size-spelled more n rest))
 
 pub one-spelling : One-spelling
+unfolding spelled
 one-spelling m n s t e = (
   sym (value-spelled 4 m s) ∙ ap (value 4) e ∙ value-spelled 4 n t,
   sym (behind-spelled 4 m s) ∙ ap (λ bytes. drop (size 4 bytes) bytes) e ∙ behind-spelled 4 n t,
@@ -102,6 +103,7 @@ groups-read more n place rest h =
     rw (spelled-ends more n rest, spelled-rightly more n rest h, value-spelled more n rest, behind-spelled more n rest, size-spelled more n rest) refl
 
 pub spellings-are-read : Spellings-are-read
+unfolding spelled number-in
 spellings-are-read n place rest h = groups-read 4 n place rest h
 
 -- bytes that are refused in no way begin with a spelling
@@ -162,6 +164,7 @@ groups-spelled more before n left strung e =
     )
 
 pub only-spellings-are-read : Only-spellings-are-read
+unfolding spelled number-in
 only-spellings-are-read before n left strung e =
     let spelt = groups-spelled 4 before n left strung e in
     record { fits = spelt .0; bytes = spelt .1; place = spelt .2 }
@@ -182,6 +185,7 @@ misspelt-ends (suc more) (byte ∷ bytes) e =
 -- the ways in which reading a number ends
 module _ (before : Input) where
   pub number-read : (n place : ℕ) (rest : List ℕ) → n < limit 4 → before .bytes ≡ groups 4 n ++ rest → place ≡ before .place + (length (before .bytes) - length rest) → (number-in before ≡ Ok (n, input place rest)) × Spelled-at before n (input place rest)
+  unfolding spelled number-in
   number-read n place rest h e at =
       let l = length-append (groups 4 n) rest in
       let whole = ap length e in
@@ -191,6 +195,7 @@ module _ (before : Input) where
       )
 
   pub number-refused : (fault : Fault) → Faulty fault 4 (before .bytes) → number-in before ≡ Err (number-told (refusal-at fault (before .place)))
+  unfolding number-in
   number-refused EndsEarly e = cond-true (ends-early 4 (before .bytes)) _ _ e
   number-refused Misspelt e =
       cond-false (ends-early 4 (before .bytes)) _ _ (misspelt-ends 4 (before .bytes) e) ∙ cond-true (misspelt 4 (before .bytes)) _ _ e

@@ -16,7 +16,7 @@ abbrev pub limit : ℕ → ℕ
 limit more = 2 ^ (7 * more + 4)
 
 -- the bytes of a number
-abbrev pub spelled : ℕ → List ℕ
+unfoldable pub spelled : ℕ → List ℕ
 spelled n = groups 4 n
 
 -- bit 0x80 is set
@@ -52,7 +52,7 @@ value zero (byte ∷ bytes) = byte
 value (suc more) (byte ∷ bytes) = cond (continues byte) (value more bytes * 128 + byte % 128) byte
 
 -- the number at the start of an input; a refusal carries the place of its first byte
-abbrev pub number-in : Input → Reading ℕ
+unfoldable pub number-in : Input → Reading ℕ
 number-in input =
     refused-at (ends-early 4 (input .bytes)) 11 (input .place)
     (refused-at (misspelt 4 (input .bytes)) 12 (input .place)

@@ -1,8 +1,7 @@
 // Whether two sheets, each under its tariff, offer the same bargains.
-use crate::samples::all_used;
+use crate::samples::altered;
 use crate::samples::card;
 use crate::samples::card_a;
-use crate::samples::filled_for_x;
 use crate::samples::row;
 use crate::samples::rows_g;
 use crate::samples::sheet_of_one;
@@ -48,30 +47,47 @@ fn as_x_by_a(sheet: &Sheet, card: &RateCard) -> Result<bool, QuestionRefusal> {
 }
 
 #[test]
-fn the_order_of_tasks_and_machines_does_not_matter() -> Result<(), Fail> {
-    let turned = card(&[(60, 6000), (10, 600), (20, 1500)]);
-    check_eq(as_x_by_a(&sheet_x(), &card_a()), Ok(true))?;
-    check_eq(as_x_by_a(&sheet_x_reordered(), &card_a()), Ok(true))?;
-    check_eq(as_x_by_a(&sheet_x_reordered(), &turned), Ok(true))
-}
-
-#[test]
-fn another_work_makes_another_bargain() -> Result<(), Fail> {
-    let mut sheet = sheet_x();
-    check(sheet.rework(1, 61).is_ok())?;
-    check_eq(as_x_by_a(&sheet, &card_a()), Ok(false))?;
-    check_eq(as_x_by_a(&sheet_of_one(60), &card_a()), Ok(false))?;
-    check_eq(as_x_by_a(&sheet_x(), &card(&[])), Ok(false))
-}
-
-#[test]
-fn a_line_that_others_beat_does_not_matter() -> Result<(), Fail> {
-    for (speed, rate) in [(10, 601), (5, 600), (60, 6000), (30, 60_000)] {
-        let extended = card(&[(10, 600), (speed, rate), (20, 1500), (60, 6000)]);
-        check_eq(as_x_by_a(&sheet_x(), &extended), Ok(true))?;
+fn x_by_a_against_others() -> Result<(), Fail> {
+    let mut reworked = sheet_x();
+    let _ = reworked.rework(1, 61);
+    for (sheet, lines, equal) in [
+        // the order of tasks and machines does not matter
+        (
+            sheet_x_reordered(),
+            [(60, 6000), (10, 600), (20, 1500), (20, 1500)],
+            true,
+        ),
+        // a line that another beats does not matter
+        (
+            sheet_x(),
+            [(10, 600), (10, 601), (20, 1500), (60, 6000)],
+            true,
+        ),
+        (
+            sheet_x(),
+            [(10, 600), (5, 600), (20, 1500), (60, 6000)],
+            true,
+        ),
+        // a cheaper line, another work and a missing task do
+        (
+            sheet_x(),
+            [(10, 600), (60, 5940), (20, 1500), (60, 6000)],
+            false,
+        ),
+        (
+            reworked,
+            [(10, 600), (20, 1500), (60, 6000), (60, 6000)],
+            false,
+        ),
+        (
+            sheet_of_one(60),
+            [(10, 600), (20, 1500), (60, 6000), (60, 6000)],
+            false,
+        ),
+    ] {
+        check_eq(as_x_by_a(&sheet, &card(&lines)), Ok(equal))?;
     }
-    let better = card(&[(10, 600), (20, 1500), (60, 6000), (60, 5940)]);
-    check_eq(as_x_by_a(&sheet_x(), &better), Ok(false))
+    Ok(())
 }
 
 // X by two tables.
@@ -97,129 +113,102 @@ fn by_tables(first: &[Row], second: &[Row]) -> Result<bool, QuestionRefusal> {
 }
 
 #[test]
-fn bargains_by_grades() -> Result<(), Fail> {
+fn a_row_that_another_beats_does_not_matter() -> Result<(), Fail> {
     let [a, b, c, d, e] = rows_g();
-    check_eq(
-        by_tables(&rows_g(), &[e, d, row(7, 60, 3, 4), c, b, a]),
-        Ok(true),
-    )?;
-    check_eq(
-        by_tables(&rows_g(), &[e, d, row(7, 60, 2, 4), c, b, a]),
-        Ok(false),
-    )?;
-    check_eq(by_tables(&rows_g(), &[a, b]), Ok(false))
+    for (minutes, equal) in [(3, true), (2, false)] {
+        check_eq(
+            by_tables(&rows_g(), &[e, d, row(7, 60, minutes, 4), c, b, a]),
+            Ok(equal),
+        )?;
+    }
+    Ok(())
 }
 
-// A sheet under the tariff that never quotes against one under a card.
-fn as_never(sheet: &Sheet, other: &Sheet, card: &RateCard) -> Result<bool, QuestionRefusal> {
+// X under the tariff that never quotes against a sheet under a card.
+fn as_never(other: &Sheet, card: &RateCard) -> Result<bool, QuestionRefusal> {
     let never: NeverQuotes<Cents> = NeverQuotes::new();
     let mut cells = [used_cell(); 64];
     let mut points = [used_point(); 9];
-    same_bargains(sheet, &never, other, card, &mut cells, &mut [], &mut points)
+    same_bargains(
+        &sheet_x(),
+        &never,
+        other,
+        card,
+        &mut cells,
+        &mut [],
+        &mut points,
+    )
 }
 
 #[test]
 fn empty_fronts_are_equal() -> Result<(), Fail> {
-    check_eq(as_never(&sheet_x(), &sheet_of_one(7), &card(&[])), Ok(true))?;
-    check_eq(
-        as_never(&sheet_x(), &sheet_of_one(1_000_000), &card_a()),
-        Ok(true),
-    )?;
-    check_eq(as_never(&sheet_x(), &sheet_x(), &card_a()), Ok(false))?;
-    check_eq(as_never(&sheet_x(), &Sheet::open(), &card_a()), Ok(false))
+    for (sheet, card, equal) in [
+        (sheet_of_one(7), card(&[]), true),
+        (sheet_of_one(1_000_000), card_a(), true),
+        (sheet_x(), card_a(), false),
+        (Sheet::open(), card(&[]), false),
+    ] {
+        check_eq(as_never(&sheet, &card), Ok(equal))?;
+    }
+    Ok(())
+}
+
+// Asks by A with the first cells of longer memory.
+fn ask(
+    first: &Sheet,
+    second: &Sheet,
+    cells: &mut [Cell<Cents>],
+    cell_count: usize,
+    first_points: &mut [Point<Cents>],
+    second_points: &mut [Point<Cents>],
+) -> Result<bool, QuestionRefusal> {
+    let cell_count = cell_count.min(cells.len());
+    let cells = &mut cells[0..cell_count];
+    same_bargains(
+        first,
+        &card_a(),
+        second,
+        &card_a(),
+        cells,
+        first_points,
+        second_points,
+    )
+}
+
+// The answer with so many cells and 8 points each, how many cells were altered, and whether the first points and no
+// others were.
+fn asked(
+    first: &Sheet,
+    second: &Sheet,
+    cell_count: usize,
+    expected: &[(u32, u64)],
+) -> (Result<bool, QuestionRefusal>, usize, bool) {
+    let mut cells = [used_cell(); 64];
+    let mut first_points = [used_point(); 8];
+    let mut second_points = [used_point(); 8];
+    let answer = ask(
+        first,
+        second,
+        &mut cells,
+        cell_count,
+        &mut first_points,
+        &mut second_points,
+    );
+    let kept = shows(&second_points, &[]);
+    (
+        answer,
+        altered(&cells),
+        kept && shows(&first_points, expected),
+    )
 }
 
 #[test]
-fn without_tasks_no_quote_is_missed() -> Result<(), Fail> {
-    let never: NeverQuotes<Cents> = NeverQuotes::new();
-    let mut cells = [used_cell(); 1];
-    let mut first = [used_point(); 1];
-    let mut second = [used_point(); 1];
-    check_eq(
-        same_bargains(
-            &Sheet::open(),
-            &card_a(),
-            &Sheet::open(),
-            &never,
-            &mut cells,
-            &mut first,
-            &mut second,
-        ),
-        Ok(true),
-    )?;
-    check(shows(&first, &[(0, 0)]) && shows(&second, &[(0, 0)]))
-}
-
-#[test]
-fn one_cell_less_for_either_sheet_alters_nothing() -> Result<(), Fail> {
-    let mut cells = [used_cell(); 50];
-    let mut first = [used_point(); 1];
-    let mut second = [used_point(); 1];
-    check_eq(
-        same_bargains(
-            &Sheet::open(),
-            &card_a(),
-            &sheet_x(),
-            &card_a(),
-            &mut cells,
-            &mut first,
-            &mut second,
-        ),
-        Err(QuestionRefusal::TooFewCells),
-    )?;
-    check_eq(
-        same_bargains(
-            &sheet_x(),
-            &card_a(),
-            &Sheet::open(),
-            &card_a(),
-            &mut cells,
-            &mut first,
-            &mut second,
-        ),
-        Err(QuestionRefusal::TooFewCells),
-    )?;
-    check(all_used(&cells) && shows(&first, &[(88, 77)]) && shows(&second, &[(88, 77)]))
-}
-
-#[test]
-fn one_point_less_for_the_first_sheet_leaves_both_fronts_unwritten() -> Result<(), Fail> {
-    let mut cells = [used_cell(); 52];
-    let mut first = [used_point(); 8];
-    let mut second = [used_point(); 1];
-    check_eq(
-        same_bargains(
-            &sheet_x(),
-            &card_a(),
-            &Sheet::open(),
-            &card_a(),
-            &mut cells,
-            &mut first,
-            &mut second,
-        ),
-        Err(QuestionRefusal::TooShort),
-    )?;
-    check(shows(&first, &[(88, 77); 8]) && shows(&second, &[(88, 77)]))?;
-    check(filled_for_x(&cells) && all_used(&cells[51..52]))
-}
-
-#[test]
-fn one_point_less_for_the_second_sheet_leaves_the_first_front() -> Result<(), Fail> {
-    let mut cells = [used_cell(); 52];
-    let mut first = [used_point(); 2];
-    let mut second = [used_point(); 8];
-    check_eq(
-        same_bargains(
-            &Sheet::open(),
-            &card_a(),
-            &sheet_x(),
-            &card_a(),
-            &mut cells,
-            &mut first,
-            &mut second,
-        ),
-        Err(QuestionRefusal::TooShort),
-    )?;
-    check(shows(&first, &[(0, 0), (88, 77)]) && shows(&second, &[(88, 77); 8]))?;
-    check(filled_for_x(&cells) && all_used(&cells[51..52]))
+fn memory_too_short_for_either_sheet_is_refused() -> Result<(), Fail> {
+    let few = Err(QuestionRefusal::TooFewCells);
+    let short = Err(QuestionRefusal::TooShort);
+    let empty = Sheet::open();
+    check(asked(&sheet_x(), &empty, 50, &[]) == (few, 0, true))?;
+    check(asked(&empty, &sheet_x(), 50, &[]) == (few, 0, true))?;
+    check(asked(&sheet_x(), &empty, 64, &[]) == (short, 51, true))?;
+    check(asked(&empty, &sheet_x(), 64, &[(0, 0)]) == (short, 51, true))
 }

@@ -1,13 +1,11 @@
-// Fronts.
-use crate::samples::all_used;
+// Fronts, and what they leave in memory.
+use crate::samples::altered;
 use crate::samples::card;
 use crate::samples::card_a;
-use crate::samples::filled_for_x;
 use crate::samples::rows_g;
 use crate::samples::sheet_of_one;
 use crate::samples::sheet_x;
 use crate::samples::shows;
-use crate::samples::shows_grades;
 use crate::samples::used_cell;
 use crate::samples::used_point;
 use costs::Cents;
@@ -27,6 +25,7 @@ use tariffs::CardTariff;
 use tariffs::NeverQuotes;
 use tariffs::NeverTariff;
 use tariffs::QuoteTable;
+use tariffs::RateCard;
 use tariffs::TableTariff;
 
 const FRONT_OF_X: [(u32, u64); 9] = [
@@ -41,69 +40,92 @@ const FRONT_OF_X: [(u32, u64); 9] = [
     (16, 220),
 ];
 
+// Asks with the first cells and points of longer memory.
+fn ask(
+    sheet: &Sheet,
+    card: &RateCard,
+    cells: &mut [Cell<Cents>],
+    cell_count: usize,
+    points: &mut [Point<Cents>],
+    point_count: usize,
+) -> Result<usize, QuestionRefusal> {
+    let cell_count = cell_count.min(cells.len());
+    let point_count = point_count.min(points.len());
+    front(
+        sheet,
+        card,
+        &mut cells[0..cell_count],
+        &mut points[0..point_count],
+    )
+}
+
+// The answer with so many cells and points lent of used memory, how many cells were altered, and whether these points
+// and no others were.
+fn asked(
+    sheet: &Sheet,
+    card: &RateCard,
+    cell_count: usize,
+    point_count: usize,
+    expected: &[(u32, u64)],
+) -> (Result<usize, QuestionRefusal>, usize, bool) {
+    let mut cells = [used_cell(); 64];
+    let mut points = [used_point(); 12];
+    let answer = ask(
+        sheet,
+        card,
+        &mut cells,
+        cell_count,
+        &mut points,
+        point_count,
+    );
+    (answer, altered(&cells), shows(&points, expected))
+}
+
 #[test]
 fn the_front_of_x_by_a() -> Result<(), Fail> {
-    let mut cells = [used_cell(); 64];
-    let mut points = [used_point(); 11];
-    check_eq(front(&sheet_x(), &card_a(), &mut cells, &mut points), Ok(9))?;
-    check(shows(&points[0..9], &FRONT_OF_X))?;
-    check(shows(&points[9..11], &[(88, 77), (88, 77)]))?;
-    check(filled_for_x(&cells))?;
-    check(all_used(&cells[51..64]))
+    for (cells, points) in [(64, 12), (51, 9)] {
+        check(asked(&sheet_x(), &card_a(), cells, points, &FRONT_OF_X) == (Ok(9), 51, true))?;
+    }
+    Ok(())
 }
 
 #[test]
-fn memory_of_the_least_size_serves() -> Result<(), Fail> {
-    let mut cells = [used_cell(); 51];
-    let mut points = [used_point(); 9];
-    check_eq(front(&sheet_x(), &card_a(), &mut cells, &mut points), Ok(9))?;
-    check(shows(&points, &FRONT_OF_X))
+fn memory_too_short_is_refused() -> Result<(), Fail> {
+    for (cells, points, refusal, altered) in [
+        (50, 9, QuestionRefusal::TooFewCells, 0),
+        (0, 0, QuestionRefusal::TooFewCells, 0),
+        (64, 8, QuestionRefusal::TooShort, 51),
+    ] {
+        check(asked(&sheet_x(), &card_a(), cells, points, &[]) == (Err(refusal), altered, true))?;
+    }
+    Ok(())
 }
 
 #[test]
-fn one_cell_less_is_refused_and_alters_nothing() -> Result<(), Fail> {
-    let mut cells = [used_cell(); 50];
-    let mut points = [used_point(); 2];
-    check_eq(
-        front(&sheet_x(), &card_a(), &mut cells, &mut points),
-        Err(QuestionRefusal::TooFewCells),
-    )?;
-    check_eq(
-        front(&sheet_x(), &card_a(), &mut cells[0..0], &mut points[0..0]),
-        Err(QuestionRefusal::TooFewCells),
-    )?;
-    check(all_used(&cells))?;
-    check(shows(&points, &[(88, 77), (88, 77)]))
+fn nothing_to_do_takes_no_time_and_costs_nothing() -> Result<(), Fail> {
+    let stages = Sheet::replay(&[Call::Stage, Call::Stage, Call::Stage]);
+    for (sheet, needed) in [(Sheet::open(), 1), (stages, 4)] {
+        check(asked(&sheet, &card_a(), needed, 1, &[(0, 0)]) == (Ok(1), needed, true))?;
+    }
+    Ok(())
 }
 
 #[test]
-fn one_point_less_is_refused_when_the_cells_are_filled() -> Result<(), Fail> {
-    let mut cells = [used_cell(); 53];
-    let mut points = [used_point(); 9];
-    check_eq(
-        front(&sheet_x(), &card_a(), &mut cells, &mut points[0..8]),
-        Err(QuestionRefusal::TooShort),
-    )?;
-    check(shows(&points, &[(88, 77); 9]))?;
-    check(filled_for_x(&cells))?;
-    check(all_used(&cells[51..53]))
-}
-
-// The front of X in memory that a sheet of this one work has used.
-fn x_after(work: u32) -> Result<(), Fail> {
-    let mut cells = [used_cell(); 51];
-    let mut points = [used_point(); 9];
-    check(front(&sheet_of_one(work), &card_a(), &mut cells, &mut points).is_ok())?;
-    check_eq(front(&sheet_x(), &card_a(), &mut cells, &mut points), Ok(9))?;
-    check(shows(&points, &FRONT_OF_X) && filled_for_x(&cells))
+fn a_task_without_quotes_leaves_no_point() -> Result<(), Fail> {
+    let never: NeverQuotes<Cents> = NeverQuotes::new();
+    let mut cells = [used_cell(); 3];
+    check(asked(&sheet_of_one(7), &card(&[]), 3, 0, &[]) == (Ok(0), 2, true))?;
+    check_eq(front(&sheet_x(), &never, &mut cells, &mut []), Ok(0))
 }
 
 #[test]
 fn memory_of_a_former_sheet_serves() -> Result<(), Fail> {
-    for work in [100, 60, 150] {
-        x_after(work)?;
-    }
-    Ok(())
+    let mut cells = [used_cell(); 51];
+    let mut points = [used_point(); 9];
+    let _ = front(&sheet_of_one(150), &card_a(), &mut cells, &mut points);
+    check_eq(front(&sheet_x(), &card_a(), &mut cells, &mut points), Ok(9))?;
+    check(shows(&points, &FRONT_OF_X))?;
+    check(!cells[2].reached && cells[3].cost.amount() == 400 && cells[18].cost.amount() == 100)
 }
 
 #[test]
@@ -112,7 +134,7 @@ fn the_front_of_x_by_g() -> Result<(), Fail> {
     let mut cells = [Cell {
         reached: true,
         cost: Grade::new(12),
-    }; 64];
+    }; 52];
     let mut points = [Point {
         length: 88,
         cost: Grade::new(12),
@@ -126,57 +148,8 @@ fn the_front_of_x_by_g() -> Result<(), Fail> {
         ),
         Ok(3),
     )?;
-    check(shows_grades(&points, &[(6, 9), (8, 4), (13, 1), (88, 12)]))?;
-    check(cells[51].reached && cells[51].cost.number() == 12)?;
-    check_eq(
-        front(
-            &sheet_x(),
-            &QuoteTable::over(&rows),
-            &mut cells[0..50],
-            &mut points,
-        ),
-        Err(QuestionRefusal::TooFewCells),
-    )
-}
-
-// How many points a sheet has with so many cells, and the first of them.
-fn first_point(sheet: &Sheet, cells: usize) -> Result<(usize, u32, u64), QuestionRefusal> {
-    let mut memory = [used_cell(); 4];
-    let mut points = [used_point(); 1];
-    match front(sheet, &card_a(), &mut memory[0..cells.min(4)], &mut points) {
-        Ok(count) => Ok((count, points[0].length, points[0].cost.amount())),
-        Err(refusal) => Err(refusal),
-    }
-}
-
-#[test]
-fn nothing_to_do_takes_no_time_and_costs_nothing() -> Result<(), Fail> {
-    let stages = Sheet::replay(&[Call::Stage, Call::Stage, Call::Stage]);
-    for (sheet, needed) in [(Sheet::open(), 1), (stages, 4)] {
-        check_eq(
-            first_point(&sheet, needed - 1),
-            Err(QuestionRefusal::TooFewCells),
-        )?;
-        check_eq(first_point(&sheet, needed), Ok((1, 0, 0)))?;
-    }
-    Ok(())
-}
-
-#[test]
-fn a_task_without_quotes_leaves_no_point() -> Result<(), Fail> {
-    let mut cells = [used_cell(); 3];
-    let mut points = [used_point(); 1];
-    check_eq(
-        front(&sheet_of_one(7), &card(&[]), &mut cells, &mut points),
-        Ok(0),
-    )?;
-    check(!cells[0].reached && cells[1].reached && all_used(&cells[2..3]))?;
-    check(shows(&points, &[(88, 77)]))
-}
-
-#[test]
-fn a_tariff_that_never_quotes_leaves_no_point() -> Result<(), Fail> {
-    let never: NeverQuotes<Cents> = NeverQuotes::new();
-    let mut cells = [used_cell(); 3];
-    check_eq(front(&sheet_x(), &never, &mut cells, &mut []), Ok(0))
+    let [a, b, c, d] = points;
+    check(a.length == 6 && b.length == 8 && c.length == 13 && d.length == 88)?;
+    check(a.cost.number() == 9 && b.cost.number() == 4 && c.cost.number() == 1)?;
+    check(cells[51].reached && cells[51].cost.number() == 12)
 }

@@ -4,8 +4,8 @@ mod bargains;
 #[cfg(test)]
 mod fronts;
 #[cfg(test)]
-mod limits;
+mod grades;
 #[cfg(test)]
-mod plans;
+mod limits;
 #[cfg(test)]
 mod samples;

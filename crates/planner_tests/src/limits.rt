@@ -1,192 +1,111 @@
-// Budgets and deadlines, their plans and their refusals.
-use crate::samples::all_used;
-use crate::samples::ask_budget;
-use crate::samples::ask_deadline;
+// Budgets and deadlines in cents: answers, plans, refusals, and what they leave in memory.
+use crate::samples::altered;
 use crate::samples::card;
 use crate::samples::card_a;
-use crate::samples::filled_for_x;
-use crate::samples::rows_g;
 use crate::samples::sheet_of_one;
 use crate::samples::sheet_x;
-use crate::samples::told_grade;
+use crate::samples::sheet_x_reordered;
+use crate::samples::told;
 use crate::samples::used_cell;
 use costs::Cents;
-use costs::Grade;
-use costs::GradeCost;
+use costs::CentsCost;
 use model::Cell;
-use planner::QuestionRefusal;
-use planner::QuestionRefusalDebug;
-use planner::QuestionRefusalPartialEq;
-use planner::QuestionRefused;
 use planner::budget;
 use planner::deadline;
-use refusals::Refusal;
 use sheets::Call;
 use sheets::Sheet;
 use std::test::*;
-use tariffs::QuoteTable;
+use tariffs::CardTariff;
 use tariffs::RateCard;
-use tariffs::TableTariff;
 
-// A budget on X by A in fresh memory, which has room past what is written.
-fn budget_of_x(
-    limit: u64,
-    answer: Result<(u32, u64), QuestionRefusal>,
-    plan: [u8; 5],
-) -> Result<(), Fail> {
-    let mut cells = [used_cell(); 64];
+#[derive(Clone, Copy)]
+enum Limit {
+    Budget(u64),
+    Deadline(u32),
+}
+
+// Asks with the first cells and bytes of longer memory.
+fn ask(
+    sheet: &Sheet,
+    card: &RateCard,
+    limit: Limit,
+    cells: &mut [Cell<Cents>],
+    cell_count: usize,
+    bytes: &mut [u8],
+    byte_count: usize,
+) -> Result<(u32, u64), (u8, Option<usize>)> {
+    let cell_count = cell_count.min(cells.len());
+    let byte_count = byte_count.min(bytes.len());
+    let cells = &mut cells[0..cell_count];
+    let bytes = &mut bytes[0..byte_count];
+    match limit {
+        Limit::Budget(cost) => told(budget(sheet, card, Cents::new(cost), cells, bytes)),
+        Limit::Deadline(minutes) => told(deadline(sheet, card, minutes, cells, bytes)),
+    }
+}
+
+// The answer with so many cells and bytes lent of used memory, the bytes afterwards, and how many cells were altered.
+fn asked(
+    sheet: &Sheet,
+    card: &RateCard,
+    limit: Limit,
+    cell_count: usize,
+    byte_count: usize,
+) -> (Result<(u32, u64), (u8, Option<usize>)>, [u8; 5], usize) {
+    let mut cells = [used_cell(); 80];
     let mut bytes = [9; 5];
-    check_eq(
-        ask_budget(&sheet_x(), &card_a(), limit, &mut cells, &mut bytes),
-        answer,
-    )?;
-    check(bytes == plan)?;
-    check(filled_for_x(&cells) && all_used(&cells[51..64]))
-}
-
-fn deadline_of_x(
-    limit: u32,
-    answer: Result<(u32, u64), QuestionRefusal>,
-    plan: [u8; 5],
-) -> Result<(), Fail> {
-    let mut cells = [used_cell(); 64];
-    let mut bytes = [9; 5];
-    check_eq(
-        ask_deadline(&sheet_x(), &card_a(), limit, &mut cells, &mut bytes),
-        answer,
-    )?;
-    check(bytes == plan)?;
-    check(filled_for_x(&cells) && all_used(&cells[51..64]))
+    let answer = ask(
+        sheet,
+        card,
+        limit,
+        &mut cells,
+        cell_count,
+        &mut bytes,
+        byte_count,
+    );
+    (answer, bytes, altered(&cells))
 }
 
 #[test]
-fn budgets_of_x_by_a() -> Result<(), Fail> {
+fn limits_of_x_by_a() -> Result<(), Fail> {
     for (limit, answer, plan) in [
-        (u64::MAX, Ok((3, 400)), [2, 2, 2, 9, 9]),
-        (400, Ok((3, 400)), [2, 2, 2, 9, 9]),
-        (399, Ok((4, 375)), [2, 1, 2, 9, 9]),
-        (260, Ok((9, 260)), [1, 0, 1, 9, 9]),
-        (259, Ok((12, 245)), [1, 0, 0, 9, 9]),
-        (220, Ok((16, 220)), [0, 0, 0, 9, 9]),
-        (219, Err(QuestionRefusal::NoneWithin), [9; 5]),
-        (0, Err(QuestionRefusal::NoneWithin), [9; 5]),
+        (Limit::Budget(u64::MAX), Ok((3, 400)), [2, 2, 2, 9, 9]),
+        (Limit::Budget(399), Ok((4, 375)), [2, 1, 2, 9, 9]),
+        (Limit::Budget(260), Ok((9, 260)), [1, 0, 1, 9, 9]),
+        (Limit::Budget(259), Ok((12, 245)), [1, 0, 0, 9, 9]),
+        (Limit::Budget(220), Ok((16, 220)), [0, 0, 0, 9, 9]),
+        (Limit::Budget(219), Err((10, None)), [9; 5]),
+        (Limit::Deadline(2), Err((10, None)), [9; 5]),
+        (Limit::Deadline(3), Ok((3, 400)), [2, 2, 2, 9, 9]),
+        (Limit::Deadline(5), Ok((4, 375)), [2, 1, 2, 9, 9]),
+        (Limit::Deadline(15), Ok((13, 235)), [0, 0, 1, 9, 9]),
+        (
+            Limit::Deadline(4_294_967_295),
+            Ok((16, 220)),
+            [0, 0, 0, 9, 9],
+        ),
     ] {
-        budget_of_x(limit, answer, plan)?;
+        check(asked(&sheet_x(), &card_a(), limit, 64, 5) == (answer, plan, 51))?;
     }
     Ok(())
 }
 
 #[test]
-fn deadlines_of_x_by_a() -> Result<(), Fail> {
-    for (limit, answer, plan) in [
-        (0, Err(QuestionRefusal::NoneWithin), [9; 5]),
-        (2, Err(QuestionRefusal::NoneWithin), [9; 5]),
-        (3, Ok((3, 400)), [2, 2, 2, 9, 9]),
-        (5, Ok((4, 375)), [2, 1, 2, 9, 9]),
-        (15, Ok((13, 235)), [0, 0, 1, 9, 9]),
-        (16, Ok((16, 220)), [0, 0, 0, 9, 9]),
-        (17, Ok((16, 220)), [0, 0, 0, 9, 9]),
-        (4_294_967_295, Ok((16, 220)), [0, 0, 0, 9, 9]),
-    ] {
-        deadline_of_x(limit, answer, plan)?;
-    }
-    Ok(())
-}
-
-// Budgets and deadlines by grade, in fresh memory.
-fn graded(
-    limit: u32,
-    answer: Result<(u32, u8), QuestionRefusal>,
-    plan: [u8; 4],
-) -> Result<(), Fail> {
-    let rows = rows_g();
-    let mut cells = [Cell {
-        reached: true,
-        cost: Grade::new(12),
-    }; 52];
-    let mut bytes = [9; 4];
-    check_eq(
-        told_grade(budget(
-            &sheet_x(),
-            &QuoteTable::over(&rows),
-            Grade::new(limit),
-            &mut cells,
-            &mut bytes,
-        )),
-        answer,
-    )?;
-    check(bytes == plan)?;
-    check(cells[51].reached && cells[51].cost.number() == 12)
-}
-
-#[test]
-fn budgets_of_x_by_g() -> Result<(), Fail> {
-    for (limit, answer, plan) in [
-        (15, Ok((6, 9)), [1, 1, 2, 9]),
-        (8, Ok((8, 4)), [1, 1, 1, 9]),
-        (4, Ok((8, 4)), [1, 1, 1, 9]),
-        (1, Ok((13, 1)), [0, 0, 1, 9]),
-        (0, Err(QuestionRefusal::NoneWithin), [9; 4]),
-    ] {
-        graded(limit, answer, plan)?;
+fn memory_too_short_is_refused_and_left_alone() -> Result<(), Fail> {
+    for (cells, bytes, number) in [(50, 3, 7), (50, 2, 7), (0, 0, 7), (51, 2, 8)] {
+        for limit in [Limit::Budget(0), Limit::Deadline(5)] {
+            check(
+                asked(&sheet_x(), &card_a(), limit, cells, bytes)
+                    == (Err((number, None)), [9; 5], 0),
+            )?;
+        }
     }
     Ok(())
 }
 
 #[test]
-fn a_deadline_of_x_by_g() -> Result<(), Fail> {
-    let rows = rows_g();
-    let mut cells = [Cell {
-        reached: false,
-        cost: Grade::new(0),
-    }; 51];
-    let mut bytes = [9; 3];
-    check_eq(
-        told_grade(deadline(
-            &sheet_x(),
-            &QuoteTable::over(&rows),
-            12,
-            &mut cells,
-            &mut bytes,
-        )),
-        Ok((8, 4)),
-    )?;
-    check(bytes == [1, 1, 1])
-}
-
-#[test]
-fn one_cell_less_is_refused_before_anything_else() -> Result<(), Fail> {
-    let mut cells = [used_cell(); 50];
-    let mut bytes = [9; 2];
-    check_eq(
-        ask_budget(&sheet_x(), &card_a(), 399, &mut cells, &mut bytes),
-        Err(QuestionRefusal::TooFewCells),
-    )?;
-    check_eq(
-        ask_deadline(&sheet_x(), &card_a(), 0, &mut cells, &mut bytes),
-        Err(QuestionRefusal::TooFewCells),
-    )?;
-    check(bytes == [9; 2] && all_used(&cells))
-}
-
-#[test]
-fn one_byte_less_is_refused_and_alters_nothing() -> Result<(), Fail> {
-    let mut cells = [used_cell(); 51];
-    let mut bytes = [9; 2];
-    check_eq(
-        ask_budget(&sheet_x(), &card_a(), 399, &mut cells, &mut bytes),
-        Err(QuestionRefusal::TooShort),
-    )?;
-    check_eq(
-        ask_deadline(&sheet_x(), &card_a(), 2, &mut cells, &mut bytes),
-        Err(QuestionRefusal::TooShort),
-    )?;
-    check(bytes == [9; 2] && all_used(&cells))
-}
-
-// Four tasks, of which the second and the last are too much work for every machine of A.
-fn partly_unquoted() -> Sheet {
-    Sheet::replay(
+fn the_lowest_task_without_quotes_is_told() -> Result<(), Fail> {
+    let mut sheet = Sheet::replay(
         &[
             Call::Stage,
             Call::Stage,
@@ -201,58 +120,126 @@ fn partly_unquoted() -> Sheet {
                 work: 900_000,
             },
         ],
+    );
+    check(asked(&sheet, &card_a(), Limit::Budget(1000), 39, 3) == (Err((8, None)), [9; 5], 0))?;
+    for (call, task) in [
+        (Call::Front, 1),
+        (Call::Strike { task: 1 }, 3),
+        (
+            Call::Rework {
+                task: 0,
+                work: 1_000_000,
+            },
+            0,
+        ),
+    ] {
+        let _ = sheet.perform(call);
+        check(
+            asked(&sheet, &card_a(), Limit::Deadline(0), 39, 4)
+                == (Err((9, Some(task))), [9; 5], 0),
+        )?;
+    }
+    check(
+        asked(&sheet_of_one(7), &card(&[]), Limit::Budget(5), 2, 1)
+            == (Err((9, Some(0))), [9; 5], 0),
     )
 }
 
-// A limit of either kind on a sheet with tasks that nobody quotes.
-fn unquoted(sheet: &Sheet, task: usize) -> Result<(), Fail> {
-    let mut cells = [used_cell(); 40];
-    let mut bytes = [9; 4];
-    check_eq(
-        ask_budget(sheet, &card_a(), 1000, &mut cells, &mut bytes),
-        Err(QuestionRefusal::Unquoted(task)),
-    )?;
-    check_eq(
-        ask_deadline(sheet, &card_a(), 0, &mut cells, &mut bytes),
-        Err(QuestionRefusal::Unquoted(task)),
-    )?;
-    check(bytes == [9; 4] && all_used(&cells))
+// Two stages of one work each, so that most pairs come from two allowance lists.
+fn alike() -> Sheet {
+    Sheet::replay(
+        &[
+            Call::Stage,
+            Call::Task { stage: 0, work: 60 },
+            Call::Stage,
+            Call::Task { stage: 1, work: 60 },
+        ],
+    )
 }
 
 #[test]
-fn the_lowest_task_without_quotes_is_told() -> Result<(), Fail> {
-    let mut sheet = partly_unquoted();
-    unquoted(&sheet, 1)?;
-    check(sheet.strike(1).is_ok())?;
-    unquoted(&sheet, 3)?;
-    check(sheet.rework(0, 1_000_000).is_ok())?;
-    unquoted(&sheet, 0)
+fn plans_go_by_the_first_list_and_the_lowest_machine() -> Result<(), Fail> {
+    let tied = card(&[(10, 700), (10, 600), (10, 600), (20, 1500)]);
+    for (sheet, card, limit, answer, plan) in [
+        (alike(), card_a(), 199, (4, 175), [2, 1, 9, 9, 9]),
+        (alike(), card_a(), 150, (6, 150), [1, 1, 9, 9, 9]),
+        (alike(), card_a(), 149, (9, 135), [1, 0, 9, 9, 9]),
+        (
+            sheet_x_reordered(),
+            card_a(),
+            399,
+            (4, 375),
+            [2, 1, 255, 2, 9],
+        ),
+        (
+            sheet_x_reordered(),
+            card_a(),
+            259,
+            (12, 245),
+            [0, 0, 255, 1, 9],
+        ),
+        (sheet_x(), tied, 220, (16, 220), [1, 1, 1, 9, 9]),
+    ] {
+        let (told, bytes, _) = asked(&sheet, &card, Limit::Budget(limit), 64, 5);
+        check(told == Ok(answer) && bytes == plan)?;
+    }
+    Ok(())
 }
 
 #[test]
-fn too_few_bytes_are_told_before_a_task_without_quotes() -> Result<(), Fail> {
-    let mut cells = [used_cell(); 39];
+fn plans_follow_strikes_and_reworks() -> Result<(), Fail> {
+    let mut sheet = sheet_x();
+    for (call, limit, answer, plan, cells) in [
+        (Call::Front, 300, (6, 300), [1, 1, 2, 9, 9], 51),
+        (
+            Call::Strike { task: 1 },
+            299,
+            (5, 275),
+            [2, 255, 1, 9, 9],
+            51,
+        ),
+        (
+            Call::Rework { task: 2, work: 120 },
+            300,
+            (11, 275),
+            [1, 255, 1, 9, 9],
+            69,
+        ),
+        (
+            Call::Strike { task: 0 },
+            200,
+            (2, 200),
+            [255, 255, 2, 9, 9],
+            39,
+        ),
+        (
+            Call::Strike { task: 2 },
+            0,
+            (0, 0),
+            [255, 255, 255, 9, 9],
+            3,
+        ),
+    ] {
+        let _ = sheet.perform(call);
+        check(asked(&sheet, &card_a(), Limit::Budget(limit), 80, 5) == (Ok(answer), plan, cells))?;
+    }
+    Ok(())
+}
+
+#[test]
+fn memory_serves_one_question_after_another() -> Result<(), Fail> {
+    let mut cells = [used_cell(); 51];
     let mut bytes = [9; 3];
-    check_eq(
-        ask_budget(&partly_unquoted(), &card_a(), 1000, &mut cells, &mut bytes),
-        Err(QuestionRefusal::TooShort),
-    )?;
-    check(bytes == [9; 3] && all_used(&cells))
-}
-
-#[test]
-fn an_empty_card_quotes_nothing() -> Result<(), Fail> {
-    let mut cells = [used_cell(); 2];
-    let mut bytes = [9; 1];
-    check_eq(
-        ask_budget(&sheet_of_one(7), &card(&[]), 5, &mut cells, &mut bytes),
-        Err(QuestionRefusal::Unquoted(0)),
-    )?;
-    check_eq(
-        ask_deadline(&sheet_of_one(7), &card(&[]), 5, &mut cells, &mut bytes),
-        Err(QuestionRefusal::Unquoted(0)),
-    )?;
-    check(bytes == [9; 1] && all_used(&cells))
+    let _ = budget(
+        &sheet_x(),
+        &card_a(),
+        Cents::new(399),
+        &mut cells,
+        &mut bytes,
+    );
+    let answer = deadline(&sheet_x(), &card_a(), 12, &mut cells, &mut bytes);
+    let refused = deadline(&sheet_x(), &card_a(), 2, &mut cells, &mut bytes);
+    check(told(answer) == Ok((12, 245)) && told(refused) == Err((10, None)) && bytes == [1, 0, 0])
 }
 
 // 16 stages of 16 tasks of one unit each.
@@ -268,59 +255,18 @@ fn largest_sheet() -> Sheet {
 }
 
 #[test]
-fn the_largest_sheet_is_planned() -> Result<(), Fail> {
-    let mut cells = [used_cell(); 289];
-    let mut bytes = [9; 256];
-    check_eq(
-        ask_budget(
-            &largest_sheet(),
-            &card(&[(1, 601), (1, 600)]),
-            2560,
-            &mut cells,
-            &mut bytes,
-        ),
-        Ok((16, 2560)),
-    )?;
-    check(bytes == [1; 256])
-}
-
-#[test]
-fn a_day_is_the_longest_stage() -> Result<(), Fail> {
+fn the_largest_sheet_and_the_longest_stage_are_planned() -> Result<(), Fail> {
     let mut cells = [used_cell(); 2880];
-    let mut bytes = [9; 1];
-    check_eq(
-        ask_budget(
-            &sheet_of_one(1_000_000),
-            &card(&[(694, 100), (695, 100)]),
-            2399,
-            &mut cells,
-            &mut bytes,
-        ),
-        Ok((1439, 2399)),
-    )?;
-    check(bytes == [1])?;
-    check_eq(
-        ask_deadline(
-            &sheet_of_one(1_000_000),
-            &card(&[(694, 100), (695, 100)]),
-            1438,
-            &mut cells,
-            &mut bytes,
-        ),
-        Err(QuestionRefusal::NoneWithin),
-    )
-}
-
-#[test]
-fn refusals_have_numbers() -> Result<(), Fail> {
-    for (refusal, number, carried) in [
-        (QuestionRefusal::TooFewCells, 7, None),
-        (QuestionRefusal::TooShort, 8, None),
-        (QuestionRefusal::Unquoted(3), 9, Some(3)),
-        (QuestionRefusal::NoneWithin, 10, None),
-    ] {
-        check_eq(refusal.number(), number)?;
-        check_eq(refusal.carried(), carried)?;
-    }
-    Ok(())
+    let mut bytes = [9; 256];
+    let card = card(&[(694, 601), (695, 600)]);
+    let longest = budget(
+        &sheet_of_one(1_000_000),
+        &card,
+        Cents::new(14_390),
+        &mut cells,
+        &mut bytes,
+    );
+    check(told(longest) == Ok((1439, 14_390)) && bytes[0] == 1 && bytes[1] == 9)?;
+    let largest = deadline(&largest_sheet(), &card, 16, &mut cells, &mut bytes);
+    check(told(largest) == Ok((16, 2560)) && bytes == [1; 256])
 }

@@ -1,15 +1,12 @@
 // Sheets, tariffs and memory for the tests, and results by their numbers.
 use costs::Cents;
-use costs::CentsCost;
-use costs::Grade;
 use model::Cell;
 use model::Point;
 use planner::QuestionRefusal;
-use planner::budget;
-use planner::deadline;
+use planner::QuestionRefused;
+use refusals::Refusal;
 use sheets::Call;
 use sheets::Sheet;
-use tariffs::CardTariff;
 use tariffs::RateCard;
 use tariffs::Row;
 
@@ -99,108 +96,38 @@ pub(crate) fn used_point() -> Point<Cents> {
     }
 }
 
-// The cost in a cell, if it has one.
-pub(crate) fn cost_in(cell: &Cell<Cents>) -> Option<u64> {
-    if cell.reached {
-        Some(cell.cost.amount())
-    } else {
-        None
-    }
-}
-
-// Whether all cells are as they were before any question.
-pub(crate) fn all_used(cells: &[Cell<Cents>]) -> bool {
-    for cell in cells {
-        if cost_in(cell) != Some(77) {
-            return false;
+// How many cells were altered, up to the last such. A question that fills its cells alters the last of them.
+pub(crate) fn altered(cells: &[Cell<Cents>]) -> usize {
+    let mut end = 0;
+    for (place, cell) in cells.iter().enumerate() {
+        if !cell.reached || cell.cost.amount() != 77 {
+            end = place + 1;
         }
     }
-    true
+    end
 }
 
-// Whether the cells are those of X by A, at the ends of each row and where costs first appear.
-pub(crate) fn filled_for_x(cells: &[Cell<Cents>]) -> bool {
-    for (place, cost) in [
-        (0, None),
-        (2, None),
-        (3, Some(400)),
-        (16, Some(220)),
-        (17, None),
-        (18, Some(100)),
-        (33, Some(60)),
-        (34, Some(0)),
-        (50, Some(0)),
-    ] {
-        if place >= cells.len() || cost_in(&cells[place]) != cost {
-            return false;
-        }
-    }
-    true
-}
-
-// Whether the points are these, and no more.
+// Whether the points are these, and then as they were before any question.
 pub(crate) fn shows(points: &[Point<Cents>], expected: &[(u32, u64)]) -> bool {
-    if points.len() != expected.len() {
-        return false;
-    }
-    for place in 0..points.len() {
-        let (length, amount) = expected[place];
-        if points[place].length != length || points[place].cost.amount() != amount {
+    for (place, point) in points.iter().enumerate() {
+        let (length, amount) = if place < expected.len() {
+            expected[place]
+        } else {
+            (88, 77)
+        };
+        if point.length != length || point.cost.amount() != amount {
             return false;
         }
     }
     true
 }
 
-pub(crate) fn shows_grades(points: &[Point<Grade>], expected: &[(u32, u8)]) -> bool {
-    if points.len() != expected.len() {
-        return false;
-    }
-    for place in 0..points.len() {
-        let (length, number) = expected[place];
-        if points[place].length != length || points[place].cost.number() != number {
-            return false;
-        }
-    }
-    true
-}
-
-// A length and cents, or the refusal.
+// A length and cents, or the refusal's number and what it carries.
 pub(crate) fn told(
     answer: Result<Point<Cents>, QuestionRefusal>,
-) -> Result<(u32, u64), QuestionRefusal> {
+) -> Result<(u32, u64), (u8, Option<usize>)> {
     match answer {
         Ok(point) => Ok((point.length, point.cost.amount())),
-        Err(refusal) => Err(refusal),
+        Err(refusal) => Err((refusal.number(), refusal.carried())),
     }
-}
-
-pub(crate) fn told_grade(
-    answer: Result<Point<Grade>, QuestionRefusal>,
-) -> Result<(u32, u8), QuestionRefusal> {
-    match answer {
-        Ok(point) => Ok((point.length, point.cost.number())),
-        Err(refusal) => Err(refusal),
-    }
-}
-
-// A budget in cents.
-pub(crate) fn ask_budget(
-    sheet: &Sheet,
-    card: &RateCard,
-    limit: u64,
-    cells: &mut [Cell<Cents>],
-    bytes: &mut [u8],
-) -> Result<(u32, u64), QuestionRefusal> {
-    told(budget(sheet, card, Cents::new(limit), cells, bytes))
-}
-
-pub(crate) fn ask_deadline(
-    sheet: &Sheet,
-    card: &RateCard,
-    limit: u32,
-    cells: &mut [Cell<Cents>],
-    bytes: &mut [u8],
-) -> Result<(u32, u64), QuestionRefusal> {
-    told(deadline(sheet, card, limit, cells, bytes))
 }
