@@ -12,7 +12,7 @@ import re
 import sys
 
 # a name: what stands between blanks and brackets
-TOKEN = re.compile(r"""--[^\n]*|//[^\n]*|"(?:[^"\\]|\\.)*"|[^\s(){}\[\].,;"]+|\.|[\s(){}\[\],;"]+""")
+TOKEN = re.compile(r"""--[^\n]*|//[^\n]*|"(?:[^"\\]|\\.)*"|[^\s(){}\[\].,;"]+|\.|[\s(){}\[\],;]+|.""", re.S)
 NAME = re.compile(r"^[A-Za-z][\w'′-]*$")
 IMPORT = re.compile(r"^\s*(?:ghost )?(?:pub )?use ([^;{}\n]*?)\.?\{([^}]*)\}", re.M)
 FIELD = re.compile(r"^\s+(?:pub )?([A-Za-z][\w'′-]*) :")

@@ -6,7 +6,7 @@ use Rattle.texts.specs.declared.word.Word.TheVariants.{Number, NoQuote, Refused}
 abbrev pub word_text : Word → List ℕ
 word_text (Number n) = decimal n
 word_text NoQuote = codes "none"
-word-text Refused = codes "refused"
+word_text Refused = codes "refused"
 
 -- what stands behind a word: a space where words follow, else the line's end
 abbrev pub separator : List Word → ℕ
