@@ -12,8 +12,8 @@ use refusals::Refusal;
 // Writes `refused`, the refusal's number and the value that it carries, if any, as a line at the start of the
 // memory, and returns how many bytes that took.
 pub fn write_refusal<R: Refusal>(refusal: &R, memory: &mut [u8]) -> Result<usize, TooShort>
-    ensures answer { answer_of too_short_told result ≡ write_answer (line (refusal_words (told refusal.now))) memory.old }
-    ensures after { memory.new ≡ write_after (line (refusal_words (told refusal.now))) memory.old }
+    ensures answer { answer_of too_short_told result ≡ write_answer (line (refusal_words (R.told refusal.now))) memory.old }
+    ensures after { memory.new ≡ write_after (line (refusal_words (R.told refusal.now))) memory.old }
 {
     let number = Word::Number(u64::from(refusal.number()));
     match refusal.carried() {

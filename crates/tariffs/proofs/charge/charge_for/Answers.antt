@@ -9,5 +9,5 @@ returns c = record {
       let few : c.args.rate * c.args.minutes ≤ 1440000000 = mul-le-mul rate minutes in
       let amount = ap (λ (a : Cents). a.value) c.new.ensures in
       let product : c.from.result * c.from-2.result ≡ c.args.rate * c.args.minutes = cc in
-      (omega (arith, c.div-ceil.ensures), λ n covers. omega (arith, c.div-ceil.ensures));
+      (omega (arith, c.div_ceil.ensures), λ n covers. omega (arith, c.div_ceil.ensures));
 }

@@ -12,6 +12,6 @@ returns-then-n-lt10 t c = record {
 pub returns-else-n-lt10 : goal.returns-else-n-lt10
 returns-else-n-lt10 t c =
     let more = length_more_digits c.args.n c.if-n-lt10.false (omega arith) in
-    let front = c.number-len.ensures.value in
+    let front = c.number_len.ensures.value in
     let most = length-decimal-le 20 c.args.n (omega arith) (omega arith) (omega arith) in
     record { value = omega arith; few = omega arith }

@@ -8,12 +8,12 @@ use Rattle.texts.proofs.line.line_room.Goals as goal
 pub returns-then-left-needed : goal.returns-then-left-needed
 returns-then-left-needed c =
     let more = length_line_more c.args.words.now c.loop-word.word-index (Number 0) c.loop-word-test.true in
-    room_short (line c.args.words.now) c.args.room (omega (arith, c.loop-word.invariant, c.word-len-needed.ensures.value))
+    room_short (line c.args.words.now) c.args.room (omega (arith, c.loop-word.invariant, c.word_len-needed.ensures.value))
 
 pub loop-word-preserved : goal.loop-word-preserved
 loop-word-preserved c =
     let more = length_line_more c.args.words.now c.loop-word.word-index (Number 0) c.loop-word-test.true in
-    omega (arith, c.loop-word.invariant, c.word-len-needed.ensures.value)
+    omega (arith, c.loop-word.invariant, c.word_len-needed.ensures.value)
 
 pub returns : goal.returns
 returns c =

@@ -6,13 +6,13 @@ use Rattle.texts.proofs.line.write_line.Goals as goal
 
 pub returns : goal.returns
 returns c =
-    let fits = room_enough (line c.args.words.now) (length c.args.memory.now) (sym (ap is_some c.line-room.ensures) ∙ c.if-is-none.ensures) in
+    let fits = room_enough (line c.args.words.now) (length c.args.memory.now) (sym (ap is_some c.line_room.ensures) ∙ c.if-is_none.ensures) in
     record {
-      answer = put_answer _ _ _ _ fits c.put-words.ensures;
-      after = put_after _ _ _ _ fits c.put-words.ensures;
+      answer = put_answer _ _ _ _ fits c.put_words.ensures;
+      after = put_after _ _ _ _ fits c.put_words.ensures;
     }
 
-pub returns-then-is-none : goal.returns-then-is-none
-returns-then-is-none c =
-    let short = room_lacking (line c.args.words.now) (length c.args.memory.now) (sym (ap is_some c.line-room.ensures) ∙ c.if-is-none.ensures) in
+pub returns-then-is_none : goal.returns-then-is_none
+returns-then-is_none c =
+    let short = room_lacking (line c.args.words.now) (length c.args.memory.now) (sym (ap is_some c.line_room.ensures) ∙ c.if-is_none.ensures) in
     record { answer = short_answer _ _ short; after = short_after _ _ short }

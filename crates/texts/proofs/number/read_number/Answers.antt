@@ -5,14 +5,14 @@ use Rattle.texts.specs.Number.{all_digits, value_behind}
 use Rattle.texts.proofs.Numbers.{digits_more, digits_end, value_more}
 use Rattle.texts.proofs.number.read_number.Goals as goal
 
-pub returns-then-not-is-digit : goal.returns-then-not-is-digit
-returns-then-not-is-digit c =
-    let ended : all_digits c.args.text.now ≡ false = sym c.loop-byte.invariant.0 ∙ digits_end _ _ c.loop-byte-test.true (sym c.if-not-is-digit.ensures) in
+pub returns-then-not-is_digit : goal.returns-then-not-is_digit
+returns-then-not-is_digit c =
+    let ended : all_digits c.args.text.now ≡ false = sym c.loop-byte.invariant.0 ∙ digits_end _ _ c.loop-byte-test.true (sym c.if-not-is_digit.ensures) in
     grind (arith, nat_tests)
 
 pub loop-byte-preserved : goal.loop-byte-preserved
 loop-byte-preserved c =
-    (sym (digits_more _ _ c.loop-byte-test.true (sym c.if-not-is-digit.ensures)) ∙ c.loop-byte.invariant.0, omega arith, value_more _ _ c.loop-byte-test.true _ _ c.with-digit-value.ensures ∙ c.loop-byte.invariant.2)
+    (sym (digits_more _ _ c.loop-byte-test.true (sym c.if-not-is_digit.ensures)) ∙ c.loop-byte.invariant.0, omega arith, value_more _ _ c.loop-byte-test.true _ _ c.with_digit-value.ensures ∙ c.loop-byte.invariant.2)
 
 pub returns : goal.returns
 returns c =

@@ -6,6 +6,6 @@ pub returns : goal.returns
 returns c =
     let fits : length (decimal c.args.n) ≤ length c.args.memory.now = omega arith in
     record {
-      answer = put_answer _ _ _ _ fits c.put-digits.ensures;
-      after = put_after _ _ _ _ fits c.put-digits.ensures;
+      answer = put_answer _ _ _ _ fits c.put_digits.ensures;
+      after = put_after _ _ _ _ fits c.put_digits.ensures;
     }
