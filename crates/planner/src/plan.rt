@@ -97,7 +97,7 @@ fn first_list<T: Tariff>(
 
 // The byte of a task: its cheapest machine within the allowance, or 255 if it is struck.
 fn byte_under<T: Tariff>(tariff: &T, task: &Task, allowance: u32) -> u8
-    ensures { result ≡ (if task.now.struck then struck_byte else machine_or struck_byte (cheapest Cost-as-Cost.kind (T.Tariff.meaning tariff.now) task.now allowance)) }
+    ensures { result ≡ (if task.now.struck then struck_byte else machine_or struck_byte (cheapest T.Cost.Cost.kind (T.Tariff.meaning tariff.now) task.now allowance)) }
 {
     if task.struck {
         return STRUCK_BYTE;

@@ -11,34 +11,34 @@ use Rattle.cells.proofs.filling.fill.Goals as goal
 pub loop-stage-init : goal.loop-stage-init
 loop-stage-init g c =
     let T = g.T.Tariff.meaning c.args.tariff.now in
-    let e = enough_if_made (few_cells T (book c.args.sheet.now) c.args.cells.now) c.in-ok-layout.layout (layout_of T (book c.args.sheet.now)) c.in-ok-layout.ensures.answer in
-    filled_last (laws_of g.met.Cost.Cost) T (g.T.Tariff.ranged c.args.tariff.now) (book c.args.sheet.now) c.in-ok-layout.layout e.1 c.neutral.result c.neutral.ensures c.write-row.ensures
+    let e = enough_if_made (few_cells T (book c.args.sheet.now) c.args.cells.now) c.in_ok-layout.layout (layout_of T (book c.args.sheet.now)) c.in_ok-layout.ensures.answer in
+    filled_last (laws_of g.met.T.Cost.Cost) T (g.T.Tariff.ranged c.args.tariff.now) (book c.args.sheet.now) c.in_ok-layout.layout e.1 c.neutral.result c.neutral.ensures c.write_row.ensures
 
 pub loop-stage-preserved : goal.loop-stage-preserved
 loop-stage-preserved g c =
-    let K = g.Cost.Cost.kind in
+    let K = g.T.Cost.Cost.kind in
     let T = g.T.Tariff.meaning c.args.tariff.now in
-    let e = enough_if_made (few_cells T (book c.args.sheet.now) c.args.cells.now) c.in-ok-layout.layout (layout_of T (book c.args.sheet.now)) c.in-ok-layout.ensures.answer in
+    let e = enough_if_made (few_cells T (book c.args.sheet.now) c.args.cells.now) c.in_ok-layout.layout (layout_of T (book c.args.sheet.now)) c.in_ok-layout.ensures.answer in
     let next : c.loop-stage.stage ≡ c.loop-stage.stage - 1 + 1 = omega arith in
-    let rows = subst (λ (n : ℕ). FilledFrom K T (book c.args.sheet.now) c.in-ok-layout.layout n c.write-row.new.cells c.loop-stage.cells) next c.loop-stage.invariant in
-    filled_more (laws_of g.met.Cost.Cost) T (g.T.Tariff.ranged c.args.tariff.now) (book c.args.sheet.now) c.in-ok-layout.layout e.1 (c.loop-stage.stage - 1) (omega arith) rows c.fill-stage.ensures
+    let rows = subst (λ (n : ℕ). FilledFrom K T (book c.args.sheet.now) c.in_ok-layout.layout n c.write_row.new.cells c.loop-stage.cells) next c.loop-stage.invariant in
+    filled_more (laws_of g.met.T.Cost.Cost) T (g.T.Tariff.ranged c.args.tariff.now) (book c.args.sheet.now) c.in_ok-layout.layout e.1 (c.loop-stage.stage - 1) (omega arith) rows c.fill_stage.ensures
 
-pub returns-in-err-layout : goal.returns-in-err-layout
-returns-in-err-layout g c =
+pub returns-in_err-layout : goal.returns-in_err-layout
+returns-in_err-layout g c =
     let T = g.T.Tariff.meaning c.args.tariff.now in
-    let p = err_from_is_err_and c.from-residual.result c.from-residual.ensures.1 in
-    let few = few_if_refused (few_cells T (book c.args.sheet.now) c.args.cells.now) (plain 7) (layout_of T (book c.args.sheet.now)) c.in-err-layout.ensures.answer in
+    let p = err_from_is_err_and c.from_residual.result c.from_residual.ensures.1 in
+    let few = few_if_refused (few_cells T (book c.args.sheet.now) c.args.cells.now) (plain 7) (layout_of T (book c.args.sheet.now)) c.in_err-layout.ensures.answer in
     record { answer = rw (p.1, few); after = rw few }
 
 pub returns : goal.returns
 returns g c =
-    let K = g.Cost.Cost.kind in
+    let K = g.T.Cost.Cost.kind in
     let T = g.T.Tariff.meaning c.args.tariff.now in
-    let e = enough_if_made (few_cells T (book c.args.sheet.now) c.args.cells.now) c.in-ok-layout.layout (layout_of T (book c.args.sheet.now)) c.in-ok-layout.ensures.answer in
+    let e = enough_if_made (few_cells T (book c.args.sheet.now) c.args.cells.now) c.in_ok-layout.layout (layout_of T (book c.args.sheet.now)) c.in_ok-layout.ensures.answer in
     let first : c.loop-stage.stage ≡ 0 = omega arith in
-    let inv = subst (λ (n : ℕ). FilledFrom K T (book c.args.sheet.now) c.in-ok-layout.layout n c.write-row.new.cells c.loop-stage.cells) first c.loop-stage.invariant in
-    let rows : FilledFrom K T (book c.args.sheet.now) c.in-ok-layout.layout 0 c.args.cells.now c.loop-stage.cells = record { rows = inv.rows; past = inv.past ∙ c.write-row.ensures.past } in
+    let inv = subst (λ (n : ℕ). FilledFrom K T (book c.args.sheet.now) c.in_ok-layout.layout n c.write_row.new.cells c.loop-stage.cells) first c.loop-stage.invariant in
+    let rows : FilledFrom K T (book c.args.sheet.now) c.in_ok-layout.layout 0 c.args.cells.now c.loop-stage.cells = record { rows = inv.rows; past = inv.past ∙ c.write_row.ensures.past } in
     record {
       answer = rw e.0 (ap Ok e.1);
-      after = rw e.0 (filled_all (laws_of g.met.Cost.Cost) T (g.T.Tariff.ranged c.args.tariff.now) (book c.args.sheet.now) c.in-ok-layout.layout e.1 (omega (arith, c.in-ok-layout.ensures.room)) rows);
+      after = rw e.0 (filled_all (laws_of g.met.T.Cost.Cost) T (g.T.Tariff.ranged c.args.tariff.now) (book c.args.sheet.now) c.in_ok-layout.layout e.1 (omega (arith, c.in_ok-layout.ensures.room)) rows);
     }

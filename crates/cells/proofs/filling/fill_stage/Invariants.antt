@@ -6,5 +6,5 @@ use Rattle.cells.proofs.filling.fill_stage.Given as goal
 
 abbrev pub invariant-loop-allowance : goal.invariant-loop-allowance
 invariant-loop-allowance g l =
-    let K = g.Cost.Cost.kind in
+    let K = g.T.Cost.Cost.kind in
     RowWritten K l.layout l.stage (stage_row K (g.T.Tariff.meaning l.tariff) (stage_tasks (book l.sheet).tasks l.stage) (row_costs K l.layout l.initial.cells (l.stage + 1)) l.allowance) l.initial.cells l.cells

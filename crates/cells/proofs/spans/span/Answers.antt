@@ -6,12 +6,12 @@ use Rattle.model.specs.Cell.{span}
 use Rattle.model.proofs.Loops.{span_more, span_bound, greatest_time_bound, stage_count}
 use Rattle.cells.proofs.spans.span.Goals as goal
 
-pub overflow-add-span : goal.overflow-add-span
-overflow-add-span g c =
+pub overflow_add-span : goal.overflow_add-span
+overflow_add-span g c =
     let T = g.T.Tariff.meaning c.args.tariff.now in
     let F = g.T.Tariff.ranged c.args.tariff.now in
     let stages = standing (book c.args.sheet.now) in
-    omega (arith, c.loop-stage.invariant, span_bound T F (take c.loop-stage.stage stages), length-take c.loop-stage.stage stages, c.greatest-time-span.ensures, greatest_time_bound T F (stage_tasks (book c.args.sheet.now).tasks c.loop-stage.stage))
+    omega (arith, c.loop-stage.invariant, span_bound T F (take c.loop-stage.stage stages), length-take c.loop-stage.stage stages, c.greatest_time-span.ensures, greatest_time_bound T F (stage_tasks (book c.args.sheet.now).tasks c.loop-stage.stage))
 
 pub loop-stage-preserved : goal.loop-stage-preserved
 loop-stage-preserved g c =

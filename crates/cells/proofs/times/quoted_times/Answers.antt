@@ -8,7 +8,7 @@ use Rattle.model.specs.Assignment.{stage_tasks}
 use Rattle.model.specs.Allowance.{takes, is_time}
 use Rattle.cells.proofs.Marks.{quoted_at, quoted_more, set_mark, is_time_some, is_time_none, stage_tasks_past, not_empty_more}
 use Rattle.cells.proofs.times.quoted_times.Goals as goal
-use Rattle.cells.proofs.times.quoted_times.Goals.{then-stands-in, else-stands-in}
+use Rattle.cells.proofs.times.quoted_times.Goals.{then-stands_in, else-stands_in}
 
 pub loop-task-init : goal.loop-task-init
 loop-task-init g c = (length-replicate 1441 false, refl, λ m l. get_or-replicate 1441 m false false l)
@@ -18,9 +18,9 @@ loop-task-preserved g c =
     let T = g.T.Tariff.meaning c.args.tariff.now in
     let items = c.tasks-task-items.result.now in
     let i = c.loop-task.task-index in
-    elim c.if-stands-in.branch [
-      | then-stands-in w ↦
-          let stands = sym w.if-stands-in.ensures in (
+    elim c.if-stands_in.branch [
+      | then-stands_in w ↦
+          let stands = sym w.if-stands_in.ensures in (
             ap length w.times-is ∙ w.mark.array_long,
             w.empty-is ∙ sym (not_empty_more items c.args.stage i no_task c.loop-task-test.true stands),
             λ m l. ap (λ (marks : List Bool). get_or marks m false) w.times-is
@@ -28,8 +28,8 @@ loop-task-preserved g c =
                 ∙ ap (λ (b : Bool). b || any (takes T (get_or items i no_task) m) (range_with_len 0 T.count)) (c.loop-task.invariant.2 m l)
                 ∙ sym (quoted_more T items c.args.stage i no_task c.loop-task-test.true stands m),
           )
-      | else-stands-in w ↦
-          let past = stage_tasks_past items c.args.stage i no_task c.loop-task-test.true (sym w.if-stands-in.ensures) in (
+      | else-stands_in w ↦
+          let past = stage_tasks_past items c.args.stage i no_task c.loop-task-test.true (sym w.if-stands_in.ensures) in (
             ap length w.times-is ∙ c.loop-task.invariant.0,
             w.empty-is ∙ c.loop-task.invariant.1 ∙ ap (λ (tasks : List Task). is_empty tasks) (sym past),
             λ m l. ap (λ (marks : List Bool). get_or marks m false) w.times-is ∙ c.loop-task.invariant.2 m l ∙ ap (λ (tasks : List Task). quoted_at T tasks m) (sym past),

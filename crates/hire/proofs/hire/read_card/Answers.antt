@@ -15,13 +15,13 @@ pub loop-offer-init : goal.loop-offer-init
 loop-offer-init c =
     subst (λ (lines : List Line). Reading c.args.terms.now lines 2 0) (sym c.new-card.ensures) (reading_none c.args.terms.now)
 
-pub overflow-add-argument : goal.overflow-add-argument
-overflow-add-argument c = let r = c.loop-offer.invariant in omega (arith, r.next, r.few)
+pub overflow_add-argument : goal.overflow_add-argument
+overflow_add-argument c = let r = c.loop-offer.invariant in omega (arith, r.next, r.few)
 
 pub returns-in-Err : goal.returns-in-Err
 returns-in-Err c =
     let offer = get_or c.args.terms.now c.loop-offer.offer-index no_terms in
-    ap (λ (r : Refused). Err r) c.at-argument.ensures
+    ap (λ (r : Refused). Err r) c.at_argument.ensures
     ∙ reading_refused c.args.terms.now (lines_of c.loop-offer.card) c.loop-offer.argument c.loop-offer.offer-index no_terms c.loop-offer.invariant c.loop-offer-test.true (card_told c.in-Err.refusal) c.in-Err.ensures.answer
 
 pub loop-offer-preserved : goal.loop-offer-preserved

@@ -9,8 +9,8 @@ use Rattle.numbers.proofs.groups.+take_groups.Goals as goal
 pub returns-in-empty : goal.returns-in-empty
 returns-in-empty t c = ap (ends_early c.args.more) (nil_from_length _ (omega (arith, ltb-true)))
 
-pub returns-then-first-gt-MAX-FIFTH : goal.returns-then-first-gt-MAX-FIFTH
-returns-then-first-gt-MAX-FIFTH t c =
+pub returns-then-first-gt-MAX_FIFTH : goal.returns-then-first-gt-MAX_FIFTH
+returns-then-first-gt-MAX_FIFTH t c =
     let bytes = c.args.bytes.now in
     fifth_too_great bytes _ _ (first_rest bytes 0 (omega (arith, ltb-false))) c.args.more (omega arith) (omega arith)
 
@@ -25,24 +25,24 @@ returns-then-not-continues t c =
     let ends = leb-false 128 (get_or bytes 0 0) (sym c.if-not-continues.ensures) in
     last_group bytes _ _ (first_rest bytes 0 (omega (arith, ltb-false))) c.args.more (λ e. absurd (c.if-more-eq0.false e)) (omega arith)
 
-pub returns-in-err-high : goal.returns-in-err-high
-returns-in-err-high t c =
+pub returns-in_err-high-in-len1-up : goal.returns-in_err-high-in-len1-up
+returns-in_err-high-in-len1-up t c =
     let bytes = c.args.bytes.now in
     let goes_on = leb-true 128 (get_or bytes 0 0) (sym c.if-not-continues.ensures) in
-    let p = err_from_is_err_and c.from-residual.result c.from-residual.ensures.1 in
-    rw (p.1, p.2) (faulty_behind bytes (get_or bytes 0 0) _ (first_rest bytes 0 (omega (arith, ltb-false))) goes_on c.in-err-high.field-0.0 c.args.more c.if-more-eq0.false c.in-err-high.ensures)
+    let p = err_from_is_err_and c.from_residual.result c.from_residual.ensures.1 in
+    rw (p.1, p.2) (faulty_behind bytes (get_or bytes 0 0) _ (first_rest bytes 0 (omega (arith, ltb-false))) goes_on c.in_err-high-in-len1-up.field-0.0 c.args.more c.if-more-eq0.false c.in_err-high-in-len1-up.ensures)
 
-pub returns-then-high-lt-LEAST-HIGH : goal.returns-then-high-lt-LEAST-HIGH
-returns-then-high-lt-LEAST-HIGH t c =
+pub returns-then-high-lt-LEAST_HIGH : goal.returns-then-high-lt-LEAST_HIGH
+returns-then-high-lt-LEAST_HIGH t c =
     let bytes = c.args.bytes.now in
     let goes_on = leb-true 128 (get_or bytes 0 0) (sym c.if-not-continues.ensures) in
-    ends_in_zero bytes _ _ (first_rest bytes 0 (omega (arith, ltb-false))) goes_on c.args.more c.in-ok-high.high _ c.if-more-eq0.false (omega arith) c.in-ok-high.ensures.1
+    ends_in_zero bytes _ _ (first_rest bytes 0 (omega (arith, ltb-false))) goes_on c.args.more c.in_ok-high-in-len1-up.high _ c.if-more-eq0.false (omega arith) c.in_ok-high-in-len1-up.ensures.1
 
 pub joined-requires : goal.joined-requires
-joined-requires t c = below_25 c.args.more _ c.requires c.if-more-eq0.false c.in-ok-high.ensures.0
+joined-requires t c = below_25 c.args.more _ c.requires c.if-more-eq0.false c.in_ok-high-in-len1-up.ensures.0
 
-pub returns-else-high-lt-LEAST-HIGH : goal.returns-else-high-lt-LEAST-HIGH
-returns-else-high-lt-LEAST-HIGH t c =
+pub returns-else-high-lt-LEAST_HIGH : goal.returns-else-high-lt-LEAST_HIGH
+returns-else-high-lt-LEAST_HIGH t c =
     let bytes = c.args.bytes.now in
     let goes_on = leb-true 128 (get_or bytes 0 0) (sym c.if-not-continues.ensures) in
-    simp c.joined.ensures (further_group bytes (get_or bytes 0 0) _ (first_rest bytes 0 (omega (arith, ltb-false))) goes_on c.args.more c.in-ok-high.high _ c.if-more-eq0.false (omega arith) (omega arith) c.in-ok-high.ensures)
+    simp c.joined.ensures (further_group bytes (get_or bytes 0 0) _ (first_rest bytes 0 (omega (arith, ltb-false))) goes_on c.args.more c.in_ok-high-in-len1-up.high _ c.if-more-eq0.false (omega arith) (omega arith) c.in_ok-high-in-len1-up.ensures)

@@ -10,5 +10,5 @@ returns-then-n-lt128 t c =
 pub returns-else-n-lt128 : goal.returns-else-n-lt128
 returns-else-n-lt128 t c =
     let spelt = ap length (more_groups c.args.more c.args.n c.if-n-lt128.false.0 c.if-n-lt128.false.1) in
-    let behind = c.groups-len.ensures in
+    let behind = c.groups_len.ensures in
     record { value = omega arith; few = omega arith }

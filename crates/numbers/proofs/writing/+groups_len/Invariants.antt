@@ -1,4 +1,4 @@
 use Rattle.numbers.proofs.writing.+groups_len.Given as goal
 
-abbrev pub decreases-groups-len : goal.decreases-groups-len
-decreases-groups-len l = l.more
+abbrev pub decreases-groups_len : goal.decreases-groups_len
+decreases-groups_len l = l.more

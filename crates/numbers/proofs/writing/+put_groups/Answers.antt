@@ -16,8 +16,8 @@ returns-then-more-eq0 t c =
 pub bounds-memory-at-2 : goal.bounds-memory-at-2
 bounds-memory-at-2 t c = omega (arith, some_group c.args.more c.args.n)
 
-pub put-groups-requires : goal.put-groups-requires
-put-groups-requires t c =
+pub put_groups-requires : goal.put_groups-requires
+put_groups-requires t c =
     let spelt = ap length (more_groups c.args.more c.args.n c.if-more-eq0.false c.if-n-lt128.false) in
     (omega arith, (omega arith, limit_behind c.args.more c.args.n c.if-more-eq0.false c.requires.1, simp length-set (omega arith)))
 
@@ -25,5 +25,5 @@ pub returns : goal.returns
 returns t c =
     let spelt = more_groups c.args.more c.args.n c.if-more-eq0.false c.if-n-lt128.false in
     let room : c.args.at < length c.args.memory.now = omega (arith, some_group c.args.more c.args.n) in
-    put_same _ _ _ _ _ _ (sym (spelt ∙ ap (λ b. b ∷ groups (c.args.more - 1) (c.args.n / 128)) (sym c.low-group.ensures)))
-    (put_then _ _ _ _ _ _ _ _ (put_one c.args.memory.now c.args.at c.low-group.result room) c.put-groups.ensures)
+    put_same _ _ _ _ _ _ (sym (spelt ∙ ap (λ b. b ∷ groups (c.args.more - 1) (c.args.n / 128)) (sym c.low_group.ensures)))
+    (put_then _ _ _ _ _ _ _ _ (put_one c.args.memory.now c.args.at c.low_group.result room) c.put_groups.ensures)

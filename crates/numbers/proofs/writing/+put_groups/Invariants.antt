@@ -1,4 +1,4 @@
 use Rattle.numbers.proofs.writing.+put_groups.Given as goal
 
-abbrev pub decreases-put-groups : goal.decreases-put-groups
-decreases-put-groups l = l.more
+abbrev pub decreases-put_groups : goal.decreases-put_groups
+decreases-put_groups l = l.more

@@ -8,10 +8,10 @@ unfolding spelled
 returns c =
     let fits : length (spelled c.args.n) ≤ length c.args.memory.now = omega arith in
     record {
-      answer = put_answer _ _ _ _ fits c.put-groups.ensures;
-      after = put_after _ _ _ _ fits c.put-groups.ensures;
+      answer = put_answer _ _ _ _ fits c.put_groups.ensures;
+      after = put_after _ _ _ _ fits c.put_groups.ensures;
     }
 
-pub put-groups-requires : goal.put-groups-requires
+pub put_groups-requires : goal.put_groups-requires
 unfolding spelled
-put-groups-requires c = (omega arith, omega arith, omega arith)
+put_groups-requires c = (omega arith, omega arith, omega arith)

@@ -11,20 +11,20 @@ use Rattle.planner.proofs.bargains.compare.Goals as goal
 
 pub returns-then-few-for-both : goal.returns-then-few-for-both
 returns-then-few-for-both g c =
-    let ended = ended_few g.Cost.Cost.kind (g.T.Tariff.meaning c.args.first-tariff.now) (book c.args.first.now) (g.U.Tariff.meaning c.args.second-tariff.now) (book c.args.second.now)
+    let ended = ended_few g.T.Cost.Cost.kind (g.T.Tariff.meaning c.args.first-tariff.now) (book c.args.first.now) (g.U.Tariff.meaning c.args.second-tariff.now) (book c.args.second.now)
     c.args.cells.now c.args.first-points.now c.args.second-points.now (sym c.few-for-both.ensures ∙ c.if-few-for-both.true) in
     record { answer = ended.answered; cells = ended.left_in_cells; mine = ended.left_to_mine; yours = ended.left_to_yours }
 
 pub returns-in-Err : goal.returns-in-Err
 returns-in-Err g c =
-    let ended = ended_first g.Cost.Cost.kind (g.T.Tariff.meaning c.args.first-tariff.now) (book c.args.first.now) (g.U.Tariff.meaning c.args.second-tariff.now) (book c.args.second.now)
+    let ended = ended_first g.T.Cost.Cost.kind (g.T.Tariff.meaning c.args.first-tariff.now) (book c.args.first.now) (g.U.Tariff.meaning c.args.second-tariff.now) (book c.args.second.now)
     c.args.cells.now c.args.first-points.now c.args.second-points.now (sym c.few-for-both.ensures ∙ c.if-few-for-both.false)
     (question_told c.in-Err.refusal) c.front.new.cells c.front.new.points c.in-Err.ensures.answer c.in-Err.ensures.cells c.in-Err.ensures.points in
     record { answer = ended.answered; cells = ended.left_in_cells; mine = ended.left_to_mine; yours = ended.left_to_yours }
 
 pub returns-in-Err-front : goal.returns-in-Err-front
 returns-in-Err-front g c =
-    let K = g.Cost.Cost.kind in
+    let K = g.T.Cost.Cost.kind in
     let T = g.T.Tariff.meaning c.args.first-tariff.now in
     let U = g.U.Tariff.meaning c.args.second-tariff.now in
     let b = book c.args.first.now in
@@ -42,7 +42,7 @@ returns-in-Err-front g c =
 
 pub same-points-requires : goal.same-points-requires
 same-points-requires g c =
-    let K = g.Cost.Cost.kind in
+    let K = g.T.Cost.Cost.kind in
     let T = g.T.Tariff.meaning c.args.first-tariff.now in
     let U = g.U.Tariff.meaning c.args.second-tariff.now in
     let b = book c.args.first.now in
@@ -58,7 +58,7 @@ same-points-requires g c =
 
 pub returns : goal.returns
 returns g c =
-    let K = g.Cost.Cost.kind in
+    let K = g.T.Cost.Cost.kind in
     let T = g.T.Tariff.meaning c.args.first-tariff.now in
     let U = g.U.Tariff.meaning c.args.second-tariff.now in
     let b = book c.args.first.now in

@@ -11,7 +11,7 @@ returns g c =
     let U = g.U.Tariff.meaning c.args.second-tariff.now in
     let F = g.T.Tariff.ranged c.args.first-tariff.now in
     let G = g.U.Tariff.ranged c.args.second-tariff.now in
-    let laws = laws_of g.met.Cost.Cost in
+    let laws = laws_of g.met.T.Cost.Cost in
     record {
       answer = c.compare.ensures.answer;
       cells = c.compare.ensures.cells;

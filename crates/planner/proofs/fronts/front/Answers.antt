@@ -15,7 +15,7 @@ use Rattle.planner.proofs.fronts.front.Goals as goal
 
 pub returns-in-Err : goal.returns-in-Err
 returns-in-Err g c =
-    let K = g.Cost.Cost.kind in
+    let K = g.T.Cost.Cost.kind in
     let T = g.T.Tariff.meaning c.args.tariff.now in
     let b = book c.args.sheet.now in
     let cells = c.args.cells.now in
@@ -30,13 +30,13 @@ returns-in-Err g c =
 
 pub returns-then-points-count : goal.returns-then-points-count
 returns-then-points-count g c =
-    let K = g.Cost.Cost.kind in
+    let K = g.T.Cost.Cost.kind in
     let T = g.T.Tariff.meaning c.args.tariff.now in
     let b = book c.args.sheet.now in
     let cells = c.args.cells.now in
     let points = c.args.points.now in
     let done = enough_from_filled (few_cells T b cells) (layout_of T b) c.in-Ok.layout c.in-Ok.ensures.answer in
-    let read = row_is_front (laws_of g.met.Cost.Cost) T (g.T.Tariff.ranged c.args.tariff.now) b cells c.fill.new.cells c.in-Ok.layout done.0 c.in-Ok.ensures.after done.1 in
+    let read = row_is_front (laws_of g.met.T.Cost.Cost) T (g.T.Tariff.ranged c.args.tariff.now) b cells c.fill.new.cells c.in-Ok.layout done.0 c.in-Ok.ensures.after done.1 in
     let counted : c.count-points-count.result ≡ length (front K T b) = c.count-points-count.ensures ∙ ap length read in
     let short : length points < length (front K T b) = omega (arith, counted, c.if-points-count.true) in
     record {
@@ -48,13 +48,13 @@ returns-then-points-count g c =
 
 pub returns : goal.returns
 returns g c =
-    let K = g.Cost.Cost.kind in
+    let K = g.T.Cost.Cost.kind in
     let T = g.T.Tariff.meaning c.args.tariff.now in
     let b = book c.args.sheet.now in
     let cells = c.args.cells.now in
     let points = c.args.points.now in
     let done = enough_from_filled (few_cells T b cells) (layout_of T b) c.in-Ok.layout c.in-Ok.ensures.answer in
-    let read = row_is_front (laws_of g.met.Cost.Cost) T (g.T.Tariff.ranged c.args.tariff.now) b cells c.fill.new.cells c.in-Ok.layout done.0 c.in-Ok.ensures.after done.1 in
+    let read = row_is_front (laws_of g.met.T.Cost.Cost) T (g.T.Tariff.ranged c.args.tariff.now) b cells c.fill.new.cells c.in-Ok.layout done.0 c.in-Ok.ensures.after done.1 in
     let counted : c.count-points-count.result ≡ length (front K T b) = c.count-points-count.ensures ∙ ap length read in
     let fits : length (front K T b) ≤ length points = omega (arith, counted, c.if-points-count.false) in
     record {

@@ -18,7 +18,7 @@ use Rattle.planner.proofs.limits.answer_limit.Goals as goal
 
 pub write-plan-requires : goal.write-plan-requires
 write-plan-requires g c =
-    let K = g.Cost.Cost.kind in
+    let K = g.T.Cost.Cost.kind in
     let T = g.T.Tariff.meaning c.args.tariff.now in
     let b = book c.args.sheet.now in
     let cells = c.args.cells.now in
@@ -33,7 +33,7 @@ write-plan-requires g c =
 
 pub returns-in-Some : goal.returns-in-Some
 returns-in-Some g c =
-    let K = g.Cost.Cost.kind in
+    let K = g.T.Cost.Cost.kind in
     let T = g.T.Tariff.meaning c.args.tariff.now in
     let b = book c.args.sheet.now in
     let cells = c.args.cells.now in
@@ -42,7 +42,7 @@ returns-in-Some g c =
     let passed = let_through (few_cells T b cells) (short_plan T b bytes) (lowest_unquoted T b) c.in-ok-check.ensures in
     let done = enough_from_filled (few_cells T b cells) (layout_of T b) c.in-Ok.layout c.in-Ok.ensures.answer in
     let held = filled_hold K T b cells c.fill.new.cells c.in-Ok.layout done.0 c.in-Ok.ensures.after done.1 in
-    let some : within_limit K T (standing b) limit ≡ Some c.in-Some.point = sym (row_tells (laws_of g.met.Cost.Cost) T (g.T.Tariff.ranged c.args.tariff.now) b c.fill.new.cells c.in-Ok.layout held limit) ∙ sym c.find.ensures.value ∙ c.in-Some.is in
+    let some : within_limit K T (standing b) limit ≡ Some c.in-Some.point = sym (row_tells (laws_of g.met.T.Cost.Cost) T (g.T.Tariff.ranged c.args.tariff.now) b c.fill.new.cells c.in-Ok.layout held limit) ∙ sym c.find.ensures.value ∙ c.in-Some.is in
     let answered = limit_let_through K T b cells bytes limit passed.0 passed.1 passed.2 ∙ ap or_none_within some in
     record {
       answer = sym answered;
@@ -52,7 +52,7 @@ returns-in-Some g c =
 
 pub returns-in-None : goal.returns-in-None
 returns-in-None g c =
-    let K = g.Cost.Cost.kind in
+    let K = g.T.Cost.Cost.kind in
     let T = g.T.Tariff.meaning c.args.tariff.now in
     let b = book c.args.sheet.now in
     let cells = c.args.cells.now in
@@ -61,7 +61,7 @@ returns-in-None g c =
     let passed = let_through (few_cells T b cells) (short_plan T b bytes) (lowest_unquoted T b) c.in-ok-check.ensures in
     let done = enough_from_filled (few_cells T b cells) (layout_of T b) c.in-Ok.layout c.in-Ok.ensures.answer in
     let held = filled_hold K T b cells c.fill.new.cells c.in-Ok.layout done.0 c.in-Ok.ensures.after done.1 in
-    let none : within_limit K T (standing b) limit ≡ None = sym (row_tells (laws_of g.met.Cost.Cost) T (g.T.Tariff.ranged c.args.tariff.now) b c.fill.new.cells c.in-Ok.layout held limit) ∙ sym c.find.ensures.value ∙ c.in-None.is in
+    let none : within_limit K T (standing b) limit ≡ None = sym (row_tells (laws_of g.met.T.Cost.Cost) T (g.T.Tariff.ranged c.args.tariff.now) b c.fill.new.cells c.in-Ok.layout held limit) ∙ sym c.find.ensures.value ∙ c.in-None.is in
     let answered = limit_let_through K T b cells bytes limit passed.0 passed.1 passed.2 ∙ ap or_none_within none in
     record {
       answer = sym answered;

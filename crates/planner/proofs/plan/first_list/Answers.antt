@@ -7,7 +7,7 @@ use Rattle.planner.proofs.plan.first_list.Goals as goal
 
 pub loop-allowance-preserved : goal.loop-allowance-preserved
 loop-allowance-preserved g c =
-    let tested = reaches_read g.Cost.Cost.kind (g.T.Tariff.meaning c.args.tariff.now) (book c.args.sheet.now) c.args.point.now c.requires.filled
+    let tested = reaches_read g.T.Cost.Cost.kind (g.T.Tariff.meaning c.args.tariff.now) (book c.args.sheet.now) c.args.point.now c.requires.filled
     c.stages.stage c.loop-allowance.left c.loop-allowance.allowance c.loop-allowance.spent c.next-cost-cost.result c.cost-at-rest.result c.completes.result
     (omega arith) (omega arith) c.next-cost-cost.ensures c.cost-at-rest.ensures c.completes.ensures in (
       c.loop-allowance.invariant.0,
@@ -15,12 +15,12 @@ loop-allowance-preserved g c =
       c.loop-allowance.invariant.2,
       below_more _ _ c.loop-allowance.invariant.3 (sym tested ∙ c.if-completes.false),
       c.next-cost-cost.ensures
-          ∙ ap (λ n. cost_until g.Cost.Cost.kind (g.T.Tariff.meaning c.args.tariff.now) (stage_tasks (book c.args.sheet.now).tasks c.stages.stage) n) (let e : suc c.loop-allowance.allowance ≡ c.loop-allowance.allowance + 1 = omega arith in e),
+          ∙ ap (λ n. cost_until g.T.Cost.Cost.kind (g.T.Tariff.meaning c.args.tariff.now) (stage_tasks (book c.args.sheet.now).tasks c.stages.stage) n) (let e : suc c.loop-allowance.allowance ≡ c.loop-allowance.allowance + 1 = omega arith in e),
     )
 
 pub stages-preserved-then-completes : goal.stages-preserved-then-completes
 stages-preserved-then-completes g c =
-    let K = g.Cost.Cost.kind in
+    let K = g.T.Cost.Cost.kind in
     let T = g.T.Tariff.meaning c.args.tariff.now in
     let spent = c.loop-allowance.spent in
     let tested = reaches_read K T (book c.args.sheet.now) c.args.point.now c.requires.filled
@@ -35,5 +35,5 @@ stages-preserved-then-completes g c =
 
 pub returns : goal.returns
 returns g c =
-    listed_all g.Cost.Cost.kind (g.T.Tariff.meaning c.args.tariff.now) (book c.args.sheet.now) c.args.point.now
+    listed_all g.T.Cost.Cost.kind (g.T.Tariff.meaning c.args.tariff.now) (book c.args.sheet.now) c.args.point.now
     c.stages.list c.stages.stage c.stages.left c.stages.spent (omega arith) c.stages.invariant.1

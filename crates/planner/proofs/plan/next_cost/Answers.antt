@@ -16,6 +16,6 @@ returns g c =
     let untimed : is_time T tasks a ≡ false =
     ⊎_elim
     (λ within. sym (c.requires.marked a within) ∙ sym (ap (λ (b : Bool). b && get_or c.args.times.now a false) (lt-ltb a 1441 within)) ∙ unmarked)
-    (λ past. no_time_past g.Cost.Cost.kind T F tasks a (omega arith))
+    (λ past. no_time_past g.T.Cost.Cost.kind T F tasks a (omega arith))
     (cases_lt a 1441) in
-    c.requires.until ∙ cost_kept g.Cost.Cost.kind T F tasks a untimed
+    c.requires.until ∙ cost_kept g.T.Cost.Cost.kind T F tasks a untimed

@@ -6,7 +6,7 @@ use Rattle.planner.proofs.plan.write_plan.Goals as goal
 
 pub loop-number-preserved : goal.loop-number-preserved
 loop-number-preserved g c =
-    let K = g.Cost.Cost.kind in
+    let K = g.T.Cost.Cost.kind in
     let T = g.T.Tariff.meaning c.args.tariff.now in
     let number = c.loop-number.number in
     let tasks = c.tasks-task-items.ensures in
@@ -19,5 +19,5 @@ loop-number-preserved g c =
 pub returns : goal.returns
 returns g c =
     let last : c.loop-number.number ≡ length (book c.args.sheet.now).tasks = omega (arith, ap length c.tasks-task-items.ensures.value) in
-    written_all g.Cost.Cost.kind (g.T.Tariff.meaning c.args.tariff.now) (book c.args.sheet.now) c.args.point.now
+    written_all g.T.Cost.Cost.kind (g.T.Tariff.meaning c.args.tariff.now) (book c.args.sheet.now) c.args.point.now
     c.args.bytes.now c.loop-number.bytes c.loop-number.number last c.loop-number.invariant
