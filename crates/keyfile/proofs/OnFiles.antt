@@ -46,7 +46,7 @@ same a b e = cc
 
 -- a call that was accepted between readings
 record Obeyed (book : Book) (call : Call) (left : Input) (found : Book × Input) : Type 0 where
-  IfOk : found.0 ≡ obeyed book call
+  made : found.0 ≡ obeyed book call
   rest : found.1 ≡ left
   stepped : found.0 ≡ step book call
 

@@ -4,9 +4,9 @@ use Rattle.keyfile.proofs.sheet.read_sheet_from.Goals as goal
 
 pub returns : goal.returns
 returns c = record {
-  answer = c.take-sheet.ensures.answer;
-  after = c.take-sheet.ensures.after;
-  refused_alters_nothing = c.take-sheet.ensures.refused_alters_nothing;
-  known = known_from_part (input_of c.args.reader.now) c.take-sheet.new.sheet c.take-sheet.result c.take-sheet.ensures.answer;
+  answer = c.take_sheet.ensures.answer;
+  after = c.take_sheet.ensures.after;
+  refused_alters_nothing = c.take_sheet.ensures.refused_alters_nothing;
+  known = known_from_part (input_of c.args.reader.now) c.take_sheet.new.sheet c.take_sheet.result c.take_sheet.ensures.answer;
   read_as_written = what_is_read_was_so_written;
 }

@@ -4,13 +4,13 @@ use Rattle.keyfile.specs.Sheet.{stage_in}
 use Rattle.keyfile.proofs.OnReadings.{repeated_more, repeated_refused, repeated_all}
 use Rattle.keyfile.proofs.sheet.read_stages.Goals as goal
 
-pub returns-in-err-read-stage : goal.returns-in-err-read-stage
-returns-in-err-read-stage c =
-    let p = err_from_is_err_and c.from-residual.result c.from-residual.ensures.1 in
-    rw (p.1, p.2) (repeated_refused stage_in c.args.count c.loop.counter _ _ _ c.loop.invariant (omega arith) _ c.in-err-read-stage.ensures)
+pub returns-in_err-read_stage : goal.returns-in_err-read_stage
+returns-in_err-read_stage c =
+    let p = err_from_is_err_and c.from_residual.result c.from_residual.ensures.1 in
+    rw (p.1, p.2) (repeated_refused stage_in c.args.count c.loop.counter _ _ _ c.loop.invariant (omega arith) _ c.in_err-read_stage.ensures)
 
 pub loop-preserved : goal.loop-preserved
-loop-preserved c = repeated_more stage_in c.args.count c.loop.counter _ _ _ c.loop.invariant (omega arith) _ _ c.in-ok-read-stage.ensures
+loop-preserved c = repeated_more stage_in c.args.count c.loop.counter _ _ _ c.loop.invariant (omega arith) _ _ c.in_ok-read_stage.ensures
 
 pub returns : goal.returns
 returns c = repeated_all stage_in c.args.count c.loop.counter _ _ _ c.loop.invariant (omega arith)

@@ -9,13 +9,13 @@ use Rattle.keyfile.proofs.writing.put_stage.Goals as goal
 
 pub returns : goal.returns
 returns c =
-    let put = c.in-ok-end.ensures.put in
-    puts_then _ _ _ _ _ _ _ _ (put_same _ _ _ _ _ _ (ap spelled c.standing-count.ensures.value) put) c.put-works.ensures
+    let put = c.in_ok-end.ensures.put in
+    puts_then _ _ _ _ _ _ _ _ (put_same _ _ _ _ _ _ (ap spelled c.standing_count.ensures.value) put) c.put_works.ensures
 
-pub returns-in-err-end : goal.returns-in-err-end
-returns-in-err-end c =
-    let p = err_from_is_err_and c.from-residual.result c.from-residual.ensures.1 in
+pub returns-in_err-end : goal.returns-in_err-end
+returns-in_err-end c =
+    let p = err_from_is_err_and c.from_residual.result c.from_residual.ensures.1 in
     let works = stage_works c.args.tasks.now c.args.stage in
-    let count = ap (λ n. length (spelled n)) c.standing-count.ensures.value in
-    let short = c.in-err-end.ensures.put in
+    let count = ap (λ n. length (spelled n)) c.standing_count.ensures.value in
+    let short = c.in_err-end.ensures.put in
     rw p.1 (first_short c.args.memory.now (spelled (length works)) (flat_map spelled works) c.args.at (omega arith))

@@ -16,7 +16,7 @@ loop-stage-preserved c =
     let more = ap length (stages_more tasks stage c.args.stages c.loop-stage-test.true) in
     let parts = length-append (spelled_stage works) (stages_left tasks (stage + 1) c.args.stages) in
     let counted = length-append (spelled (length works)) (flat_map spelled works) in
-    let count = ap (λ n. length (spelled n)) c.standing-count.ensures.value in
+    let count = ap (λ n. length (spelled n)) c.standing_count.ensures.value in
     (omega arith, omega arith)
 
 pub returns : goal.returns

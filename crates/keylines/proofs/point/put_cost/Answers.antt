@@ -6,5 +6,5 @@ use Rattle.keylines.proofs.point.put_cost.Goals as goal
 pub returns : goal.returns
 returns g c =
     let text = g.C.WrittenCost.text c.args.cost in
-    let written = c.in-ok-len.ensures in
-    part_put c.args.memory.now text c.write.new.memory c.args.«at» c.in-ok-len.len (omega arith) (written_puts text _ c.write.new.memory (Ok c.in-ok-len.len) written.answer written.after)
+    let written = c.in_ok-len.ensures in
+    part_put c.args.memory.now text c.write.new.memory c.args.«at» c.in_ok-len.len (omega arith) (written_puts text _ c.write.new.memory (Ok c.in_ok-len.len) written.answer written.after)

@@ -9,49 +9,49 @@ use Rattle.planner.proofs.Compared.{Ended, neither, ended_few, ended_first, ende
 use Rattle.planner.proofs.bargains.compare.Given as given
 use Rattle.planner.proofs.bargains.compare.Goals as goal
 
-pub returns-then-few-for-both : goal.returns-then-few-for-both
-returns-then-few-for-both g c =
-    let ended = ended_few g.T.Cost.Cost.kind (g.T.Tariff.meaning c.args.first-tariff.now) (book c.args.first.now) (g.U.Tariff.meaning c.args.second-tariff.now) (book c.args.second.now)
-    c.args.cells.now c.args.first-points.now c.args.second-points.now (sym c.few-for-both.ensures ∙ c.if-few-for-both.true) in
+pub returns-then-few_for_both : goal.returns-then-few_for_both
+returns-then-few_for_both g c =
+    let ended = ended_few g.T.Cost.Cost.kind (g.T.Tariff.meaning c.args.first_tariff.now) (book c.args.first.now) (g.U.Tariff.meaning c.args.second_tariff.now) (book c.args.second.now)
+    c.args.cells.now c.args.first_points.now c.args.second_points.now (sym c.few_for_both.ensures ∙ c.if-few_for_both.true) in
     record { answer = ended.answered; cells = ended.left_in_cells; mine = ended.left_to_mine; yours = ended.left_to_yours }
 
 pub returns-in-Err : goal.returns-in-Err
 returns-in-Err g c =
-    let ended = ended_first g.T.Cost.Cost.kind (g.T.Tariff.meaning c.args.first-tariff.now) (book c.args.first.now) (g.U.Tariff.meaning c.args.second-tariff.now) (book c.args.second.now)
-    c.args.cells.now c.args.first-points.now c.args.second-points.now (sym c.few-for-both.ensures ∙ c.if-few-for-both.false)
+    let ended = ended_first g.T.Cost.Cost.kind (g.T.Tariff.meaning c.args.first_tariff.now) (book c.args.first.now) (g.U.Tariff.meaning c.args.second_tariff.now) (book c.args.second.now)
+    c.args.cells.now c.args.first_points.now c.args.second_points.now (sym c.few_for_both.ensures ∙ c.if-few_for_both.false)
     (question_told c.in-Err.refusal) c.front.new.cells c.front.new.points c.in-Err.ensures.answer c.in-Err.ensures.cells c.in-Err.ensures.points in
     record { answer = ended.answered; cells = ended.left_in_cells; mine = ended.left_to_mine; yours = ended.left_to_yours }
 
 pub returns-in-Err-front : goal.returns-in-Err-front
 returns-in-Err-front g c =
     let K = g.T.Cost.Cost.kind in
-    let T = g.T.Tariff.meaning c.args.first-tariff.now in
-    let U = g.U.Tariff.meaning c.args.second-tariff.now in
+    let T = g.T.Tariff.meaning c.args.first_tariff.now in
+    let U = g.U.Tariff.meaning c.args.second_tariff.now in
     let b = book c.args.first.now in
     let o = book c.args.second.now in
     let cells = c.args.cells.now in
-    let yours = c.args.second-points.now in
-    let enough : few_for_both K T b U o cells c.args.first-points.now yours ≡ false = sym c.few-for-both.ensures ∙ c.if-few-for-both.false in
+    let yours = c.args.second_points.now in
+    let enough : few_for_both K T b U o cells c.args.first_points.now yours ≡ false = sym c.few_for_both.ensures ∙ c.if-few_for_both.false in
     let left : c.front.new.cells ≡ filled K T b cells = c.in-Ok.ensures.cells ∙ cells_filled K T b cells [] (neither (few_cells T b cells) (few_cells U o cells) enough).0 in
-    let ended = ended_second K T b U o cells c.args.first-points.now yours enough c.in-Ok.count c.front.new.points c.in-Ok.ensures.answer c.in-Ok.ensures.points
+    let ended = ended_second K T b U o cells c.args.first_points.now yours enough c.in-Ok.count c.front.new.points c.in-Ok.ensures.answer c.in-Ok.ensures.points
     (question_told c.in-Err-front.refusal) c.front-2.new.cells c.front-2.new.points
     (c.in-Err-front.ensures.answer ∙ ap (λ (cs : List (Cell g.row.T-Cost.Denot)). front_answer K U o cs yours) left)
     (c.in-Err-front.ensures.cells ∙ ap (front_cells K U o) left)
     (c.in-Err-front.ensures.points ∙ ap (λ (cs : List (Cell g.row.T-Cost.Denot)). front_points K U o cs yours) left) in
     record { answer = ended.answered; cells = ended.left_in_cells; mine = ended.left_to_mine; yours = ended.left_to_yours }
 
-pub same-points-requires : goal.same-points-requires
-same-points-requires g c =
+pub same_points-requires : goal.same_points-requires
+same_points-requires g c =
     let K = g.T.Cost.Cost.kind in
-    let T = g.T.Tariff.meaning c.args.first-tariff.now in
-    let U = g.U.Tariff.meaning c.args.second-tariff.now in
+    let T = g.T.Tariff.meaning c.args.first_tariff.now in
+    let U = g.U.Tariff.meaning c.args.second_tariff.now in
     let b = book c.args.first.now in
     let o = book c.args.second.now in
     let cells = c.args.cells.now in
-    let yours = c.args.second-points.now in
-    let enough : few_for_both K T b U o cells c.args.first-points.now yours ≡ false = sym c.few-for-both.ensures ∙ c.if-few-for-both.false in
+    let yours = c.args.second_points.now in
+    let enough : few_for_both K T b U o cells c.args.first_points.now yours ≡ false = sym c.few_for_both.ensures ∙ c.if-few_for_both.false in
     let left : c.front.new.cells ≡ filled K T b cells = c.in-Ok.ensures.cells ∙ cells_filled K T b cells [] (neither (few_cells T b cells) (few_cells U o cells) enough).0 in
-    counts_fit K T b U o cells c.args.first-points.now yours enough c.in-Ok.count c.front.new.points c.in-Ok.ensures.answer c.in-Ok.ensures.points
+    counts_fit K T b U o cells c.args.first_points.now yours enough c.in-Ok.count c.front.new.points c.in-Ok.ensures.answer c.in-Ok.ensures.points
     c.in-Ok-front.count c.front-2.new.points
     (c.in-Ok-front.ensures.answer ∙ ap (λ (cs : List (Cell g.row.T-Cost.Denot)). front_answer K U o cs yours) left)
     (c.in-Ok-front.ensures.points ∙ ap (λ (cs : List (Cell g.row.T-Cost.Denot)). front_points K U o cs yours) left)
@@ -59,17 +59,17 @@ same-points-requires g c =
 pub returns : goal.returns
 returns g c =
     let K = g.T.Cost.Cost.kind in
-    let T = g.T.Tariff.meaning c.args.first-tariff.now in
-    let U = g.U.Tariff.meaning c.args.second-tariff.now in
+    let T = g.T.Tariff.meaning c.args.first_tariff.now in
+    let U = g.U.Tariff.meaning c.args.second_tariff.now in
     let b = book c.args.first.now in
     let o = book c.args.second.now in
     let cells = c.args.cells.now in
-    let yours = c.args.second-points.now in
-    let enough : few_for_both K T b U o cells c.args.first-points.now yours ≡ false = sym c.few-for-both.ensures ∙ c.if-few-for-both.false in
+    let yours = c.args.second_points.now in
+    let enough : few_for_both K T b U o cells c.args.first_points.now yours ≡ false = sym c.few_for_both.ensures ∙ c.if-few_for_both.false in
     let left : c.front.new.cells ≡ filled K T b cells = c.in-Ok.ensures.cells ∙ cells_filled K T b cells [] (neither (few_cells T b cells) (few_cells U o cells) enough).0 in
-    let ended = ended_both K T b U o cells c.args.first-points.now yours enough c.in-Ok.count c.front.new.points c.in-Ok.ensures.answer c.in-Ok.ensures.points
+    let ended = ended_both K T b U o cells c.args.first_points.now yours enough c.in-Ok.count c.front.new.points c.in-Ok.ensures.answer c.in-Ok.ensures.points
     c.in-Ok-front.count c.front-2.new.points
     (c.in-Ok-front.ensures.answer ∙ ap (λ (cs : List (Cell g.row.T-Cost.Denot)). front_answer K U o cs yours) left)
     (c.in-Ok-front.ensures.points ∙ ap (λ (cs : List (Cell g.row.T-Cost.Denot)). front_points K U o cs yours) left)
-    c.same-points.result c.front-2.new.cells c.same-points.ensures (c.in-Ok-front.ensures.cells ∙ ap (front_cells K U o) left) in
+    c.same_points.result c.front-2.new.cells c.same_points.ensures (c.in-Ok-front.ensures.cells ∙ ap (front_cells K U o) left) in
     record { answer = ended.answered; cells = ended.left_in_cells; mine = ended.left_to_mine; yours = ended.left_to_yours }

@@ -37,7 +37,7 @@ returns-then-points-count g c =
     let points = c.args.points.now in
     let done = enough_from_filled (few_cells T b cells) (layout_of T b) c.in-Ok.layout c.in-Ok.ensures.answer in
     let read = row_is_front (laws_of g.met.T.Cost.Cost) T (g.T.Tariff.ranged c.args.tariff.now) b cells c.fill.new.cells c.in-Ok.layout done.0 c.in-Ok.ensures.after done.1 in
-    let counted : c.count-points-count.result ≡ length (front K T b) = c.count-points-count.ensures ∙ ap length read in
+    let counted : c.count_points-count.result ≡ length (front K T b) = c.count_points-count.ensures ∙ ap length read in
     let short : length points < length (front K T b) = omega (arith, counted, c.if-points-count.true) in
     record {
       answer = sym (front_refused_8 K T b cells points done.0 short);
@@ -55,11 +55,11 @@ returns g c =
     let points = c.args.points.now in
     let done = enough_from_filled (few_cells T b cells) (layout_of T b) c.in-Ok.layout c.in-Ok.ensures.answer in
     let read = row_is_front (laws_of g.met.T.Cost.Cost) T (g.T.Tariff.ranged c.args.tariff.now) b cells c.fill.new.cells c.in-Ok.layout done.0 c.in-Ok.ensures.after done.1 in
-    let counted : c.count-points-count.result ≡ length (front K T b) = c.count-points-count.ensures ∙ ap length read in
+    let counted : c.count_points-count.result ≡ length (front K T b) = c.count_points-count.ensures ∙ ap length read in
     let fits : length (front K T b) ≤ length points = omega (arith, counted, c.if-points-count.false) in
     record {
       answer = ap Ok counted ∙ sym (front_answered K T b cells points done.0 fits);
       cells = c.in-Ok.ensures.after;
-      points = c.write-points.ensures ∙ ap (λ (ps : List (Point g.row.T-Cost.Denot)). ps ++ drop (length ps) points) read ∙ sym (points_written K T b cells points done.0 fits);
+      points = c.write_points.ensures ∙ ap (λ (ps : List (Point g.row.T-Cost.Denot)). ps ++ drop (length ps) points) read ∙ sym (points_written K T b cells points done.0 fits);
       known = known_further _ Front _ refl;
     }

@@ -16,14 +16,14 @@ use Rattle.planner.proofs.WithinLimit.{filled_hold, row_tells, let_through, limi
 use Rattle.planner.proofs.limits.answer_limit.Given as given
 use Rattle.planner.proofs.limits.answer_limit.Goals as goal
 
-pub write-plan-requires : goal.write-plan-requires
-write-plan-requires g c =
+pub write_plan-requires : goal.write_plan-requires
+write_plan-requires g c =
     let K = g.T.Cost.Cost.kind in
     let T = g.T.Tariff.meaning c.args.tariff.now in
     let b = book c.args.sheet.now in
     let cells = c.args.cells.now in
     let bytes = c.args.bytes.now in
-    let passed = let_through (few_cells T b cells) (short_plan T b bytes) (lowest_unquoted T b) c.in-ok-check.ensures in
+    let passed = let_through (few_cells T b cells) (short_plan T b bytes) (lowest_unquoted T b) c.in_ok-check.ensures in
     let done = enough_from_filled (few_cells T b cells) (layout_of T b) c.in-Ok.layout c.in-Ok.ensures.answer in
     record {
       filled = filled_hold K T b cells c.fill.new.cells c.in-Ok.layout done.0 c.in-Ok.ensures.after done.1;
@@ -39,7 +39,7 @@ returns-in-Some g c =
     let cells = c.args.cells.now in
     let bytes = c.args.bytes.now in
     let limit = c.args.limit in
-    let passed = let_through (few_cells T b cells) (short_plan T b bytes) (lowest_unquoted T b) c.in-ok-check.ensures in
+    let passed = let_through (few_cells T b cells) (short_plan T b bytes) (lowest_unquoted T b) c.in_ok-check.ensures in
     let done = enough_from_filled (few_cells T b cells) (layout_of T b) c.in-Ok.layout c.in-Ok.ensures.answer in
     let held = filled_hold K T b cells c.fill.new.cells c.in-Ok.layout done.0 c.in-Ok.ensures.after done.1 in
     let some : within_limit K T (standing b) limit ≡ Some c.in-Some.point = sym (row_tells (laws_of g.met.T.Cost.Cost) T (g.T.Tariff.ranged c.args.tariff.now) b c.fill.new.cells c.in-Ok.layout held limit) ∙ sym c.find.ensures.value ∙ c.in-Some.is in
@@ -47,7 +47,7 @@ returns-in-Some g c =
     record {
       answer = sym answered;
       cells = c.in-Ok.ensures.after ∙ cells_filled K T b cells [] passed.0 ∙ sym (cells_let_through K T b cells bytes limit passed.0 passed.1 passed.2);
-      bytes = c.write-plan.ensures ∙ sym (ap (λ (a : Answer (Point g.row.T-Cost.Denot)). limit_bytes K T b a bytes) answered);
+      bytes = c.write_plan.ensures ∙ sym (ap (λ (a : Answer (Point g.row.T-Cost.Denot)). limit_bytes K T b a bytes) answered);
     }
 
 pub returns-in-None : goal.returns-in-None
@@ -58,7 +58,7 @@ returns-in-None g c =
     let cells = c.args.cells.now in
     let bytes = c.args.bytes.now in
     let limit = c.args.limit in
-    let passed = let_through (few_cells T b cells) (short_plan T b bytes) (lowest_unquoted T b) c.in-ok-check.ensures in
+    let passed = let_through (few_cells T b cells) (short_plan T b bytes) (lowest_unquoted T b) c.in_ok-check.ensures in
     let done = enough_from_filled (few_cells T b cells) (layout_of T b) c.in-Ok.layout c.in-Ok.ensures.answer in
     let held = filled_hold K T b cells c.fill.new.cells c.in-Ok.layout done.0 c.in-Ok.ensures.after done.1 in
     let none : within_limit K T (standing b) limit ≡ None = sym (row_tells (laws_of g.met.T.Cost.Cost) T (g.T.Tariff.ranged c.args.tariff.now) b c.fill.new.cells c.in-Ok.layout held limit) ∙ sym c.find.ensures.value ∙ c.in-None.is in

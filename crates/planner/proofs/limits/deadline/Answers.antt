@@ -5,8 +5,8 @@ use Rattle.planner.proofs.limits.deadline.Goals as goal
 
 pub returns : goal.returns
 returns g c = record {
-  answer = c.answer-limit.ensures.answer;
-  cells = c.answer-limit.ensures.cells;
-  bytes = c.answer-limit.ensures.bytes;
+  answer = c.answer_limit.ensures.answer;
+  cells = c.answer_limit.ensures.cells;
+  bytes = c.answer_limit.ensures.bytes;
   known = known_further _ Deadline _ refl;
 }

@@ -8,13 +8,13 @@ use Rattle.planner.proofs.plan.first_list.Goals as goal
 pub loop-allowance-preserved : goal.loop-allowance-preserved
 loop-allowance-preserved g c =
     let tested = reaches_read g.T.Cost.Cost.kind (g.T.Tariff.meaning c.args.tariff.now) (book c.args.sheet.now) c.args.point.now c.requires.filled
-    c.stages.stage c.loop-allowance.left c.loop-allowance.allowance c.loop-allowance.spent c.next-cost-cost.result c.cost-at-rest.result c.completes.result
-    (omega arith) (omega arith) c.next-cost-cost.ensures c.cost-at-rest.ensures c.completes.ensures in (
+    c.stages.stage c.loop-allowance.left c.loop-allowance.allowance c.loop-allowance.spent c.next_cost-cost.result c.cost_at-rest.result c.completes.result
+    (omega arith) (omega arith) c.next_cost-cost.ensures c.cost_at-rest.ensures c.completes.ensures in (
       c.loop-allowance.invariant.0,
       omega arith,
       c.loop-allowance.invariant.2,
       below_more _ _ c.loop-allowance.invariant.3 (sym tested ∙ c.if-completes.false),
-      c.next-cost-cost.ensures
+      c.next_cost-cost.ensures
           ∙ ap (λ n. cost_until g.T.Cost.Cost.kind (g.T.Tariff.meaning c.args.tariff.now) (stage_tasks (book c.args.sheet.now).tasks c.stages.stage) n) (let e : suc c.loop-allowance.allowance ≡ c.loop-allowance.allowance + 1 = omega arith in e),
     )
 
@@ -24,10 +24,10 @@ stages-preserved-then-completes g c =
     let T = g.T.Tariff.meaning c.args.tariff.now in
     let spent = c.loop-allowance.spent in
     let tested = reaches_read K T (book c.args.sheet.now) c.args.point.now c.requires.filled
-    c.stages.stage c.loop-allowance.left c.loop-allowance.allowance spent c.next-cost-cost.result c.cost-at-rest.result c.completes.result
-    (omega arith) (omega arith) c.next-cost-cost.ensures c.cost-at-rest.ensures c.completes.ensures in
-    let next = spent_more K T (book c.args.sheet.now) c.args.point.now c.stages.stage c.loop-allowance.allowance spent c.or-neutral.result c.join-spent.result c.next-cost-cost.result
-    c.join-spent.ensures c.or-neutral.ensures c.next-cost-cost.ensures in
+    c.stages.stage c.loop-allowance.left c.loop-allowance.allowance spent c.next_cost-cost.result c.cost_at-rest.result c.completes.result
+    (omega arith) (omega arith) c.next_cost-cost.ensures c.cost_at-rest.ensures c.completes.ensures in
+    let next = spent_more K T (book c.args.sheet.now) c.args.point.now c.stages.stage c.loop-allowance.allowance spent c.or_neutral.result c.join-spent.result c.next_cost-cost.result
+    c.join-spent.ensures c.or_neutral.ensures c.next_cost-cost.ensures in
     let room : c.stages.stage < length c.loop-allowance.list = omega arith in
     let more = listed_more K T (book c.args.sheet.now) c.args.point.now c.loop-allowance.list c.stages.stage c.loop-allowance.left c.loop-allowance.allowance spent c.join-spent.result c.completes.result
     (omega arith) room (omega arith) tested c.then-completes.either c.loop-allowance.invariant.3 next c.loop-allowance.invariant.2 in

@@ -12,7 +12,7 @@ returns g c =
     let F = g.T.Tariff.ranged c.args.tariff.now in
     let tasks = stage_tasks (book c.args.sheet.now).tasks c.args.stage in
     let a = c.args.allowance in
-    let unmarked = sym c.if-is-marked.ensures in
+    let unmarked = sym c.if-is_marked.ensures in
     let untimed : is_time T tasks a ≡ false =
     ⊎_elim
     (λ within. sym (c.requires.marked a within) ∙ sym (ap (λ (b : Bool). b && get_or c.args.times.now a false) (lt-ltb a 1441 within)) ∙ unmarked)

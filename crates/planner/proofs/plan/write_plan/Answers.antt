@@ -11,9 +11,9 @@ loop-number-preserved g c =
     let number = c.loop-number.number in
     let tasks = c.tasks-task-items.ensures in
     let inside = c.loop-number-test.true in
-    let byte = byte_in_plan K T (book c.args.sheet.now) c.args.point.now c.first-list.new.list c.tasks-task-items.result.now number c.byte-under.result no_task
-    c.first-list.ensures tasks.value inside (tasks.sound number no_task inside).0 c.byte-under.ensures in
-    written_more K T (book c.args.sheet.now) c.args.point.now c.args.bytes.now c.loop-number.bytes number c.byte-under.result
+    let byte = byte_in_plan K T (book c.args.sheet.now) c.args.point.now c.first_list.new.list c.tasks-task-items.result.now number c.byte_under.result no_task
+    c.first_list.ensures tasks.value inside (tasks.sound number no_task inside).0 c.byte_under.ensures in
+    written_more K T (book c.args.sheet.now) c.args.point.now c.args.bytes.now c.loop-number.bytes number c.byte_under.result
     (omega (arith, ap length tasks.value)) c.requires.room byte c.loop-number.invariant
 
 pub returns : goal.returns

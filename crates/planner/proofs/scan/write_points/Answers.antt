@@ -6,7 +6,7 @@ use Rattle.cells.specs.Memory.{row_costs}
 use Rattle.planner.proofs.Points.{Written, room_behind, written_none, written_more, written_same, written_all}
 use Rattle.planner.proofs.scan.write_points.Given as given
 use Rattle.planner.proofs.scan.write_points.Goals as goal
-use Rattle.planner.proofs.scan.write_points.Goals.{in-Some, in-default}
+use Rattle.planner.proofs.scan.write_points.Goals.{in-Some, in_default}
 
 -- a point that comes has room
 room : (g : given.Over) (c : goal.In-Some g) → c.loop-minute.count < length c.loop-minute.points
@@ -14,13 +14,13 @@ room g c =
     let K = g.C.Cost.kind in
     let costs = row_costs K c.args.layout c.args.cells.now 0 in
     room_behind K costs c.args.points.now c.loop-minute.points c.loop-minute.minute c.loop-minute.count c.args.layout.width c.in-Some.point c.loop-minute.invariant.1 c.loop-minute-test.true c.requires
-    (ap option_to_list (sym c.in-Some.is) ∙ c.point-at.ensures)
+    (ap option_to_list (sym c.in-Some.is) ∙ c.point_at.ensures)
 
 pub loop-minute-init : goal.loop-minute-init
 loop-minute-init g c = (search rules, written_none _ _ _)
 
-pub offset-bounds-points-count : goal.offset-bounds-points-count
-offset-bounds-points-count g c = let h : c.loop-minute.count < length c.args.points.now = omega (arith, room g c, c.loop-minute.invariant.0) in search rules
+pub offset_bounds-points-count : goal.offset_bounds-points-count
+offset_bounds-points-count g c = let h : c.loop-minute.count < length c.args.points.now = omega (arith, room g c, c.loop-minute.invariant.0) in search rules
 
 pub bounds-points-count : goal.bounds-points-count
 bounds-points-count g c = room g c
@@ -32,18 +32,18 @@ loop-minute-preserved g c =
     let was = c.args.points.now in
     let t = c.loop-minute.minute in
     let so_far = c.loop-minute.invariant.1 in
-    elim c.match-point-at.branch [
+    elim c.match-point_at.branch [
       | in-Some w ↦
-          let some : option_to_list (Some w.in-Some.point) ≡ point_at K costs t (costs t) = ap option_to_list (sym w.in-Some.is) ∙ c.point-at.ensures in
+          let some : option_to_list (Some w.in-Some.point) ≡ point_at K costs t (costs t) = ap option_to_list (sym w.in-Some.is) ∙ c.point_at.ensures in
           let free = room_behind K costs was c.loop-minute.points t c.loop-minute.count c.args.layout.width w.in-Some.point so_far c.loop-minute-test.true c.requires some in
           let more = written_more K costs was c.loop-minute.points t c.loop-minute.count w.in-Some.point so_far free some in
           let here = subst (λ (ps : List (Point g.row.C.Denot)). Written K costs was ps (t + 1) (c.loop-minute.count + 1)) (sym w.points-is) more in
-          let now_here = subst (λ (n : ℕ). Written K costs was c.match-point-at.points (t + 1) n) (sym w.count-is) here in
+          let now_here = subst (λ (n : ℕ). Written K costs was c.match-point_at.points (t + 1) n) (sym w.count-is) here in
           (now_here.long, now_here)
-      | in-default w ↦
-          let same = written_same K costs was c.loop-minute.points t c.loop-minute.count c.point-at.result w.in-default.is c.point-at.ensures so_far in
+      | in_default w ↦
+          let same = written_same K costs was c.loop-minute.points t c.loop-minute.count c.point_at.result w.in_default.is c.point_at.ensures so_far in
           let here = subst (λ (ps : List (Point g.row.C.Denot)). Written K costs was ps (t + 1) c.loop-minute.count) (sym w.points-is) same in
-          let now_here = subst (λ (n : ℕ). Written K costs was c.match-point-at.points (t + 1) n) (sym w.count-is) here in
+          let now_here = subst (λ (n : ℕ). Written K costs was c.match-point_at.points (t + 1) n) (sym w.count-is) here in
           (now_here.long, now_here)
     ]
 

@@ -8,12 +8,12 @@ use Rattle.keylines.proofs.point.PointLine.write.Goals as goal
 pub returns : goal.returns
 returns g c =
     let text = point_line g.C.WrittenCost.text c.args.self.now in
-    let fits = room_enough text (length c.args.memory.now) (sym (ap is_some c.room-behind.ensures) ∙ c.if-is-none.ensures) in
-    let written = puts_written text c.args.memory.now _ c.put-pair.result fits c.put-pair.ensures in
+    let fits = room_enough text (length c.args.memory.now) (sym (ap is_some c.room_behind.ensures) ∙ c.if-is_none.ensures) in
+    let written = puts_written text c.args.memory.now _ c.put_pair.result fits c.put_pair.ensures in
     record { answer = written.0; after = written.1 }
 
-pub returns-then-is-none : goal.returns-then-is-none
-returns-then-is-none g c =
+pub returns-then-is_none : goal.returns-then-is_none
+returns-then-is_none g c =
     let text = point_line g.C.WrittenCost.text c.args.self.now in
-    let short = room_lacking text (length c.args.memory.now) (sym (ap is_some c.room-behind.ensures) ∙ c.if-is-none.ensures) in
+    let short = room_lacking text (length c.args.memory.now) (sym (ap is_some c.room_behind.ensures) ∙ c.if-is_none.ensures) in
     record { answer = short_answer _ _ short; after = short_after _ _ short }
