@@ -26,6 +26,6 @@ returns c =
     let room : length asked.tasks ≤ length plan = omega arith in
     let same = limit_written T asked cells plan (budget_result cents_kind T asked (cents c.args.limit)) _ _ answered kept (length-replicate 4096 c.unreached-cells.result) room in
     record {
-      answer = c.write-limit.ensures.answer ∙ ap (λ text. write_answer text c.args.text.now) same;
-      after = c.write-limit.ensures.after ∙ ap (λ text. write_after text c.args.text.now) same;
+      answer = c.write_limit.ensures.answer ∙ ap (λ text. write_answer text c.args.text.now) same;
+      after = c.write_limit.ensures.after ∙ ap (λ text. write_after text c.args.text.now) same;
     }

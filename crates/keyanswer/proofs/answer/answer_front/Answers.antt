@@ -26,8 +26,8 @@ returns-in-Ok c =
     ∙ ap (λ (a : Answer ℕ). front_text a (front_points cents_kind T asked cells points)) answered
     ∙ front_written T asked cells points (length-replicate 4096 c.unreached-cells.result) (length-replicate 4096 c.unwritten-points.result) in
     record {
-      answer = c.write-lines.ensures.answer ∙ ap (λ text. write_answer text c.args.text.now) same;
-      after = c.write-lines.ensures.after ∙ ap (λ text. write_after text c.args.text.now) same;
+      answer = c.write_lines.ensures.answer ∙ ap (λ text. write_answer text c.args.text.now) same;
+      after = c.write_lines.ensures.after ∙ ap (λ text. write_after text c.args.text.now) same;
     }
 
 pub returns-in-Err : goal.returns-in-Err
@@ -41,6 +41,6 @@ returns-in-Err c =
     ap (λ (a : Answer ℕ). front_text a (front_points cents_kind T asked cells points)) answered
     ∙ front_written T asked cells points (length-replicate 4096 c.unreached-cells.result) (length-replicate 4096 c.unwritten-points.result) in
     record {
-      answer = c.write-refusal.ensures.answer ∙ ap (λ text. write_answer text c.args.text.now) same;
-      after = c.write-refusal.ensures.after ∙ ap (λ text. write_after text c.args.text.now) same;
+      answer = c.write_refusal.ensures.answer ∙ ap (λ text. write_answer text c.args.text.now) same;
+      after = c.write_refusal.ensures.after ∙ ap (λ text. write_after text c.args.text.now) same;
     }

@@ -15,8 +15,8 @@ returns-in-Ok c =
     ap (λ (a : Answer Asked). text_of (answered a)) c.in-Ok.ensures.answer
     ∙ ap (λ bytes. text_of (answered (value_of (key_in bytes)))) first in
     record {
-      answer = c.answer-question.ensures.answer ∙ ap (λ text. write_answer text c.args.text.now) same;
-      after = c.answer-question.ensures.after ∙ ap (λ text. write_after text c.args.text.now) same;
+      answer = c.answer_question.ensures.answer ∙ ap (λ text. write_answer text c.args.text.now) same;
+      after = c.answer_question.ensures.after ∙ ap (λ text. write_after text c.args.text.now) same;
     }
 
 pub returns-in-Err : goal.returns-in-Err
@@ -26,6 +26,6 @@ returns-in-Err c =
     ap (λ (a : Answer Asked). text_of (answered a)) c.in-Err.ensures.answer
     ∙ ap (λ bytes. text_of (answered (value_of (key_in bytes)))) first in
     record {
-      answer = c.write-refusal.ensures.answer ∙ ap (λ text. write_answer text c.args.text.now) same;
-      after = c.write-refusal.ensures.after ∙ ap (λ text. write_after text c.args.text.now) same;
+      answer = c.write_refusal.ensures.answer ∙ ap (λ text. write_answer text c.args.text.now) same;
+      after = c.write_refusal.ensures.after ∙ ap (λ text. write_after text c.args.text.now) same;
     }
