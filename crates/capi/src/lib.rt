@@ -1,5 +1,7 @@
 // The C interface: calls on numbers and bytes. A slice is a pointer and a length, a `&mut` number a pointer. All calls but
 // the charge return a status: 0, the number of a refusal, or 255 where there is no quote.
+#![tactic(auto)]
+
 mod answer;
 mod bargains;
 mod charge;

@@ -1,4 +1,6 @@
 // Stage costs, and the filling of working cells in memory of the caller, for every cost kind and every tariff.
+#![tactic(auto)]
+
 mod choices;
 mod filling;
 mod layout;

@@ -1,4 +1,6 @@
 // `charges WORK SPEED RATE [SPEED RATE ..]` prints what each machine on these terms quotes for the work.
+#![tactic(auto)]
+
 use anyhow::anyhow;
 use hire::{Hire, HireRefusal, Terms, read_hire, write_quote};
 use std::env;

@@ -1,5 +1,5 @@
 -- Cents: whole numbers from 0 to 10^15
-use Rattle.std.specs.Prelude.{ℕ, ◌+◌, ◌≤◌, min, List, decimal, nat_le}
+use Rattle.std.specs.Prelude.{ℕ, ◌+◌, min, List, decimal, nat_le}
 use Rattle.std.proofs.Common.{arith}
 use Rattle.costs.specs.Kind.{Kind}
 use Rattle.costs.specs.declared.cents.Cents.{Cents}

@@ -1,5 +1,5 @@
 -- Custody grades: whole numbers from 0 to 15
-use Rattle.std.specs.Prelude.{ℕ, ◌≤◌, min, max, List, decimal, nat_le}
+use Rattle.std.specs.Prelude.{ℕ, min, max, List, decimal, nat_le}
 use Rattle.std.proofs.Common.{arith}
 use Rattle.costs.specs.Kind.{Kind}
 use Rattle.costs.specs.declared.grade.Grade.{Grade}

@@ -1,4 +1,6 @@
 // Costs: the kinds of cost in which machines are charged, and their texts.
+#![tactic(auto)]
+
 mod cents;
 mod cost;
 mod grade;

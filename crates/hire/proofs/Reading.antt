@@ -1,13 +1,12 @@
 -- A card read line by line
-use Rattle.std.proofs.Common.{◌≡◌, ℕ, ◌+◌, ◌*◌, ◌<◌, ◌≤◌, true, false, not, ltb, List, [], ◌∷◌, ◌++◌, map, length, get_or, take, Some, None, Ok, Err, sym, refl, ap, ◌∙◌, subst, arith}
+use Rattle.std.proofs.Common.{◌≡◌, ℕ, ◌+◌, ◌<◌, ◌≤◌, true, false, not, ltb, List, [], ◌∷◌, ◌++◌, map, length, get_or, take, Ok, Err, sym, refl, ap, ◌∙◌, arith}
 use Rattle.std.proofs.lemmas.List.{length-take, length-take-le, length-map, get_or-take, take_all, take_more, map-append}
 use Rattle.std.proofs.lemmas.Bool.{cond-true, cond-false, lt-ltb, le-ltb}
 use Rattle.refusals.specs.Answer.{Answer, Refused, carrying}
 use Rattle.tariffs.specs.declared.line.Line.{Line}
 use Rattle.tariffs.specs.Card.{add_answer}
-use Rattle.tariffs.specs.First.{position}
 use Rattle.tariffs.specs.Line.{line_in_range}
-use Rattle.tariffs.proofs.Cards.{Added, full, outside, obeyed, added, refusal_number}
+use Rattle.tariffs.proofs.Cards.{full, outside, obeyed, added, refusal_number}
 use Rattle.tariffs.proofs.Firsts.{Sought, sought_none, sought_more, sought_here, sought_all}
 use Rattle.hire.specs.declared.terms.Terms.{Terms}
 use Rattle.hire.specs.Hire.{terms_line, out_of_range, speed_argument, card_verdict, card_answer}

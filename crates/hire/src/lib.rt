@@ -1,4 +1,6 @@
 // One hire, from plain numbers to the lines that tell what each machine quotes for it.
+#![tactic(auto)]
+
 mod hire;
 mod line;
 mod refusal;

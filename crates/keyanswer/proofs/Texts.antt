@@ -17,7 +17,7 @@ use Rattle.model.specs.Cell.{cells_needed}
 use Rattle.model.specs.Front.{front}
 use Rattle.model.specs.Plan.{plan}
 use Rattle.model.specs.Question.{front_answer, front_points, limit_answer, limit_bytes}
-use Rattle.keylines.specs.Plan.{machines_of, result_text}
+use Rattle.keylines.specs.Plan.{result_text}
 use Rattle.keylines.specs.Point.{point_line}
 use Rattle.keylines.proofs.Machines.{machines_written}
 use Rattle.keyanswer.specs.Answer.{key_cells, key_points, text_of, limit_text, with_cells, front_lines, limit_lines}

@@ -1,5 +1,5 @@
 -- The text that answers the input of a key
-use Rattle.std.specs.Prelude.{ℕ, cond, List, length, take, Ok, Err, nat_lt}
+use Rattle.std.specs.Prelude.{ℕ, List, length, take, Ok, Err, nat_lt}
 use Rattle.std.specs.List.{flat_map}
 use Rattle.refusals.specs.Answer.{Answer, refused_if}
 use Rattle.costs.specs.Cents.{cents, cents_kind, cents_text}

@@ -1,4 +1,6 @@
 // The answer key: from the bytes of an input to the text of its answer, and from two inputs to a verdict.
+#![tactic(auto)]
+
 mod answer;
 mod compare;
 mod memory;

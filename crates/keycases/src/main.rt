@@ -1,4 +1,6 @@
 // Prints the answers to the inputs in `data`, each behind its name.
+#![tactic(auto)]
+
 use anyhow::anyhow;
 use keyanswer::answer_key;
 use std::fs;

@@ -1,16 +1,14 @@
 -- The tasks of works given stage by stage, and the works of tasks
-use Rattle.std.proofs.Common.{◌≡◌, ℕ, zero, suc, ◌+◌, ◌<◌, ◌≤◌, Bool, true, false, cond, not, ◌&&◌, eqb, List, [], ◌∷◌, ◌++◌, map, length, filter, sym, refl, ap, ◌∙◌, ⊎_elim, append_assoc, arith}
+use Rattle.std.proofs.Common.{◌≡◌, ℕ, zero, suc, ◌+◌, ◌<◌, ◌≤◌, true, false, not, eqb, List, [], ◌∷◌, ◌++◌, map, length, filter, sym, refl, ap, ◌∙◌, ⊎_elim, append_assoc, arith}
 use Rattle.std.specs.List.{range_with_len, AllByRecursion as All}
 use Rattle.std.proofs.lemmas.List.Elements.{filter-append}
 use Rattle.std.proofs.ByRecursion.{All-append, All-weaker, all_kept_by, All-map}
 use Rattle.std.proofs.lemmas.List.{map-append, append-nil}
 use Rattle.std.proofs.lemmas.Bool.{cases_Bool, cond-true, cond-false, and_right, and_parts, eqb-true, eq-eqb, ne_eqb}
-use Rattle.sheets.specs.Book.{Book}
-use Rattle.sheets.specs.History.{Sound}
-use Rattle.sheets.specs.Tasks.{new_task, SoundTask, max_tasks}
+use Rattle.sheets.specs.Tasks.{new_task, SoundTask}
 use Rattle.sheets.specs.declared.task.Task.{Task}
 use Rattle.work.specs.Work.{max_work}
-use Rattle.keyfile.specs.Works.{stands_in, stage_works, works_by_stage}
+use Rattle.keyfile.specs.Works.{stands_in, stage_works}
 
 -- the tasks of works, the first of them in this stage
 abbrev pub tasks_from : ℕ → List (List ℕ) → List Task

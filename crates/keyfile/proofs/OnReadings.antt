@@ -1,5 +1,5 @@
 -- Readings that are repeated, from one to the next
-use Rattle.std.proofs.Common.{◌≡◌, ℕ, zero, suc, ◌+◌, ◌-◌, ◌<◌, ◌≤◌, Ok, Err, sym, refl, ap, ◌∙◌, arith}
+use Rattle.std.proofs.Common.{◌≡◌, ℕ, suc, ◌+◌, ◌-◌, ◌<◌, ◌≤◌, Ok, Err, sym, ap, ◌∙◌, arith}
 use Rattle.refusals.specs.Answer.{Refused}
 use Rattle.numbers.specs.Input.{Input, Reading, then}
 use Rattle.keyfile.specs.Reading.{repeated}

@@ -1,4 +1,6 @@
 // The files of the key: rate cards and sheets as numbers.
+#![tactic(auto)]
+
 mod card;
 mod refusal;
 mod sheet;

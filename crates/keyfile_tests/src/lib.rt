@@ -1,3 +1,5 @@
+#![tactic(auto)]
+
 // Tests of numbers, cards and sheets in files.
 #[cfg(test)]
 mod tests {

@@ -1,10 +1,10 @@
 -- Cards that were read, with the bytes that spell them
-use Rattle.std.proofs.Common.{◌≡◌, ℕ, zero, suc, ◌+◌, ◌<◌, ◌≤◌, Bool, true, false, cond, not, leb, List, [], ◌∷◌, ◌++◌, length, is_ok, Ok, Err, sym, refl, ap, ◌∙◌, subst, append_assoc, arith}
+use Rattle.std.proofs.Common.{◌≡◌, ℕ, zero, suc, Bool, true, false, cond, not, leb, List, [], ◌∷◌, ◌++◌, length, is_ok, Ok, sym, refl, ap, ◌∙◌, subst, append_assoc, arith}
 use Rattle.std.specs.List.{flat_map}
 use Rattle.std.proofs.lemmas.List.{append-nil}
-use Rattle.std.proofs.lemmas.Bool.{leb-true, and_parts, not-false}
+use Rattle.std.proofs.lemmas.Bool.{leb-true, and_parts}
 use Rattle.refusals.specs.Answer.{Answer, refused_if}
-use Rattle.numbers.specs.Input.{Input, Reading, then}
+use Rattle.numbers.specs.Input.{Input, then}
 use Rattle.numbers.specs.Number.{spelled, number_in}
 use Rattle.numbers.specs.Spellings.{ByteString}
 use Rattle.numbers.proofs.OnSpellings.{only_spellings_are_read}
@@ -13,7 +13,7 @@ use Rattle.tariffs.specs.Card.{add_answer, lines_after}
 use Rattle.tariffs.specs.Line.{line, line_in_range}
 use Rattle.keyfile.specs.Card.{line_in, card_in}
 use Rattle.keyfile.specs.Reading.{called, repeated}
-use Rattle.keyfile.proofs.OnFiles.{through, never, same, string_behind, behind_spelled}
+use Rattle.keyfile.proofs.OnFiles.{through, never, same, behind_spelled}
 use Rattle.keyinput.specs.Spelled.{spelled_line, spelled_card}
 
 -- a line that was added between readings

@@ -1,5 +1,5 @@
 -- Inputs that were read, with the bytes that spell them
-use Rattle.std.proofs.Common.{◌≡◌, ℕ, Bool, true, false, cond, eqb, List, [], ◌∷◌, ◌++◌, Ok, Err, sym, refl, ap, ◌∙◌, subst, append_assoc, arith}
+use Rattle.std.proofs.Common.{◌≡◌, ℕ, Bool, true, false, cond, eqb, List, ◌++◌, Ok, Err, sym, refl, ap, ◌∙◌, subst, append_assoc}
 use Rattle.std.proofs.lemmas.List.{append-nil}
 use Rattle.std.proofs.lemmas.Bool.{eqb-true}
 use Rattle.refusals.specs.Answer.{carrying}
@@ -7,8 +7,6 @@ use Rattle.numbers.specs.Input.{Input, input, Reading, then, value_of}
 use Rattle.numbers.specs.Number.{spelled, number_in}
 use Rattle.numbers.specs.Spellings.{ByteString}
 use Rattle.numbers.proofs.OnSpellings.{only_spellings_are_read}
-use Rattle.tariffs.specs.declared.line.Line.{Line}
-use Rattle.sheets.specs.Book.{Book}
 use Rattle.keyfile.specs.Card.{card_in}
 use Rattle.keyfile.specs.Reading.{ended}
 use Rattle.keyfile.specs.Sheet.{sheet_in}

@@ -1,4 +1,6 @@
 // The input of a key: a card, a sheet and a question; and a card with a sheet alone.
+#![tactic(auto)]
+
 mod batch;
 mod input;
 mod question;

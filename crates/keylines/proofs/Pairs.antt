@@ -1,5 +1,5 @@
 -- The length of a pair's line
-use Rattle.std.proofs.Common.{◌≡◌, ℕ, ◌+◌, List, [], ◌∷◌, ◌++◌, length, decimal, ap, ◌∙◌, arith, length-append}
+use Rattle.std.proofs.Common.{◌≡◌, ℕ, ◌+◌, List, [], ◌∷◌, ◌++◌, length, decimal, arith, length-append}
 use Rattle.model.specs.declared.point.Point.{Point}
 use Rattle.keylines.specs.Point.{point_line}
 

@@ -1,4 +1,6 @@
 // The lines of an answer: pairs of length and cost, and the machines of a plan.
+#![tactic(auto)]
+
 mod line;
 mod lines;
 mod machine;

@@ -1,4 +1,6 @@
 // `keysheet` reads a card, a sheet and a question from standard input and prints the answer.
+#![tactic(auto)]
+
 ghost use Rattle.std.specs.Prelude.{◌≤◌, length, IfOk};
 
 use keyanswer::answer_key;

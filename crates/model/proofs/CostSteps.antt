@@ -1,5 +1,5 @@
 -- A stage's cost from one allowance to the next: it changes only at quoted times
-use Rattle.std.proofs.Common.{◌≡◌, ℕ, zero, suc, ◌<◌, ◌≤◌, Bool, true, false, cond, eqb, leb, List, [], ◌∷◌, Some, None, Option, sym, refl, ap, ◌∙◌, ap₂, ⊎_elim, arith}
+use Rattle.std.proofs.Common.{◌≡◌, ℕ, zero, suc, ◌<◌, Bool, false, cond, eqb, List, [], ◌∷◌, Some, None, Option, sym, refl, ap, ◌∙◌, ap₂, ⊎_elim, arith}
 use Rattle.std.specs.List.{range_with_len}
 use Rattle.std.specs.Option.{option_map}
 use Rattle.std.proofs.lemmas.Bool.{le-leb, lt-leb, eqb-false, cases_lt, cases_Bool, or_parts, true≢false}
@@ -10,7 +10,7 @@ use Rattle.sheets.specs.declared.task.Task.{Task}
 use Rattle.model.specs.declared.choice.Choice.{Choice}
 use Rattle.model.specs.Lists.{any}
 use Rattle.model.specs.Assignment.{quote_of}
-use Rattle.model.specs.Allowance.{joined, cheaper_choice, choice_within, cheapest_below, cost_within, cost_until, takes, is_time, greatest_time}
+use Rattle.model.specs.Allowance.{joined, cheaper_choice, choice_within, cheapest_below, cost_within, cost_until, takes, is_time}
 use Rattle.model.proofs.Lists.{any_false, in_counting}
 use Rattle.model.proofs.Spans.{greatest_times_are_quoted}
 use Rattle.model.proofs.Loops.{greatest_time_bound}

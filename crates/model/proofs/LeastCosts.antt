@@ -8,7 +8,7 @@ use Rattle.tariffs.specs.declared.quote.Quote.{Quote}
 use Rattle.sheets.specs.declared.task.Task.{Task}
 use Rattle.model.specs.declared.point.Point.{Point}
 use Rattle.model.specs.declared.choice.Choice.{Choice}
-use Rattle.model.specs.Lists.{In, Paired, least}
+use Rattle.model.specs.Lists.{In, Paired}
 use Rattle.model.specs.Assignment.{quote_of, Quoted, IsAssignment, stage_time, stage_cost, length_of, cost_of, charge_of, pair_of, pairs}
 use Rattle.model.specs.Allowance.{joined, cheaper, cheapest_of, cheaper_choice, choice_within, cheapest_below, cost_within, greatest_time, is_time}
 use Rattle.model.specs.Cell.{IsLeast, least_cost, CostWithin, offer, span, LeastCostsShareOutMinutes}

@@ -1,11 +1,10 @@
 -- A budget shared out among stages and tasks
-use Rattle.std.proofs.Common.{◌≡◌, ℕ, true, List, [], ◌∷◌, map, Some, Option, sym, refl, ap, ◌∙◌, subst, ap₂}
+use Rattle.std.proofs.Common.{◌≡◌, ℕ, true, List, [], ◌∷◌, map, sym, refl, ap, subst, ap₂}
 use Rattle.costs.specs.Kind.{Kind, Laws}
 use Rattle.tariffs.specs.Meaning.{Meaning}
-use Rattle.tariffs.specs.declared.quote.Quote.{Quote}
 use Rattle.sheets.specs.declared.task.Task.{Task}
 use Rattle.model.specs.Lists.{Paired}
-use Rattle.model.specs.Assignment.{quote_of, Quoted, IsAssignment, charge_of, stage_cost, cost_of}
+use Rattle.model.specs.Assignment.{Quoted, IsAssignment, charge_of, stage_cost, cost_of}
 use Rattle.model.specs.Plan.{join_all, Bought, joined_shares, machines_bought}
 use Rattle.model.proofs.LeastCosts.{at_most_refl, join_mono}
 

@@ -1,4 +1,6 @@
 // What the questions of the planner mean: assignments, fronts, cells, limits and plans, and the theorems on them.
+#![tactic(auto)]
+
 mod cell;
 mod choice;
 mod point;

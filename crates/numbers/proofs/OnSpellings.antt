@@ -1,8 +1,8 @@
 -- Spellings are read, and nothing else is
-use Rattle.std.proofs.Common.{◌≡◌, ℕ, zero, suc, ◌+◌, ◌-◌, ◌*◌, ◌/◌, ◌%◌, ◌^◌, ◌<◌, ◌≤◌, Bool, true, false, cond, ◌&&◌, ◌||◌, ◌⊎◌, List, [], ◌∷◌, ◌++◌, length, get_or, drop, Ok, Err, sym, refl, ap, ◌∙◌, inl, inr, ⊎_elim, arith, length-append}
+use Rattle.std.proofs.Common.{◌≡◌, ℕ, zero, suc, ◌+◌, ◌-◌, ◌*◌, ◌/◌, ◌%◌, ◌<◌, ◌≤◌, Bool, true, false, List, [], ◌∷◌, ◌++◌, length, get_or, drop, Ok, Err, sym, refl, ap, ◌∙◌, inr, ⊎_elim, arith, length-append}
 use Rattle.std.proofs.lemmas.List.{drop_at}
 use Rattle.std.proofs.lemmas.Bool.{both_ways, lt-leb, le-leb, leb-true, leb-false, ltb-false, le-ltb, ne_eqb, eqb-true, cases_lt, cases_Bool, and_left, and_right, and_parts, and_cases, or_from, or_parts, or_cases, cond-true, cond-false}
-use Rattle.refusals.specs.Answer.{Answer, carrying}
+use Rattle.refusals.specs.Answer.{Answer}
 use Rattle.numbers.specs.Input.{Input, input, past, Reading, refused_at}
 use Rattle.numbers.specs.Number.{groups, limit, spelled, continues, ends_early, zero_first, misspelt, size, value, number_in}
 use Rattle.numbers.specs.declared.groups.Fault.{Fault}

@@ -1,4 +1,6 @@
 // File numbers: unsigned LEB128 in its shortest form, read byte by byte and written into memory of the caller.
+#![tactic(auto)]
+
 mod groups;
 mod reader;
 mod refusal;

@@ -4,7 +4,7 @@ use Rattle.costs.specs.Kind.{Kind}
 use Rattle.tariffs.specs.Meaning.{Meaning, Ranged}
 use Rattle.sheets.specs.declared.task.Task.{Task}
 use Rattle.model.specs.declared.choice.Choice.{Choice}
-use Rattle.model.specs.Lists.{In, here, later, is_empty}
+use Rattle.model.specs.Lists.{In, here, is_empty}
 use Rattle.model.specs.Assignment.{quoting}
 use Rattle.model.specs.Allowance.{IsCheapest, NoneWithin}
 use Rattle.model.proofs.Assignments.{of_quoting, in_quoting}

@@ -1,17 +1,17 @@
 -- The verdict on two sheets, for all calls that they have known
-use Rattle.std.proofs.Common.{◌≡◌, ℕ, Bool, true, false, ◌||◌, ◌↔◌, List, Ok, Err, Result, sym, refl, ap, ◌∙◌, subst, ap₂, arith}
+use Rattle.std.proofs.Common.{◌≡◌, ℕ, Bool, true, false, ◌||◌, ◌↔◌, List, Ok, Err, Result, sym, ap, ◌∙◌, ap₂, arith}
 use Rattle.refusals.specs.Answer.{Answer, answer_of, refused_if}
 use Rattle.costs.specs.Kind.{Kind, Laws}
 use Rattle.tariffs.specs.Meaning.{Meaning, Ranged}
 use Rattle.sheets.specs.declared.call.Call.{Call}
 use Rattle.sheets.specs.declared.sheet.Sheet.{Sheet}
 use Rattle.sheets.specs.Book.{Book, book}
-use Rattle.sheets.specs.History.{book_after, Known}
+use Rattle.sheets.specs.History.{book_after}
 use Rattle.sheets.proofs.Histories.{book_sound}
 use Rattle.model.specs.declared.cell.Cell.{Cell}
 use Rattle.model.specs.declared.point.Point.{Point}
 use Rattle.model.specs.Front.{front}
-use Rattle.model.specs.Bargain.{Memory, Enough, Matched, SameAnswers, front_left}
+use Rattle.model.specs.Bargain.{Matched}
 use Rattle.model.proofs.Bargains.{enough_memory_is_answered, fronts_by_assignments, equal_fronts_mean_same_bargains}
 use Rattle.planner.specs.declared.refusal.QuestionRefusal.{QuestionRefusal}
 use Rattle.planner.specs.Refusal.{question_told}

@@ -1,21 +1,19 @@
 -- Budgets and deadlines, read off the first row of filled cells
-use Rattle.std.proofs.Common.{◌≡◌, ℕ, ◌+◌, ◌-◌, ◌*◌, ◌<◌, ◌≤◌, min, Bool, true, false, cond, ◌||◌, List, [], ◌∷◌, ◌++◌, length, drop, is_some, Some, None, Ok, Err, Option, sym, refl, ap, ◌∙◌, subst, ap₂, arith}
-use Rattle.refusals.specs.Answer.{Answer, plain, carrying, refused_if}
+use Rattle.std.proofs.Common.{◌≡◌, ℕ, ◌+◌, ◌-◌, ◌<◌, min, Bool, true, false, cond, List, [], is_some, Some, None, Ok, Err, Option, sym, refl, ap, ◌∙◌, subst, ap₂, arith}
+use Rattle.refusals.specs.Answer.{Answer, carrying, refused_if}
 use Rattle.costs.specs.Kind.{Kind, Laws}
 use Rattle.tariffs.specs.Meaning.{Meaning, Ranged}
 use Rattle.sheets.specs.Book.{Book}
 use Rattle.model.specs.declared.cell.Cell.{Cell}
-use Rattle.model.specs.declared.point.Point.{Point}
 use Rattle.model.specs.Assignment.{standing}
-use Rattle.model.specs.Cell.{span, width, least_cost}
+use Rattle.model.specs.Cell.{span, least_cost}
 use Rattle.model.specs.Limit.{lowest_unquoted, or_none_within, unless_unquoted, within_deadline}
-use Rattle.model.specs.Plan.{plan}
-use Rattle.model.specs.Question.{few_cells, short_plan, filled, front_cells, limit_answer, limit_cells, limit_bytes}
+use Rattle.model.specs.Question.{few_cells, short_plan, filled, front_cells, limit_answer, limit_cells}
 use Rattle.model.specs.Scan.{first_below}
 use Rattle.model.proofs.Loops.{cost_in_table, budget_by_row, deadline_by_row, deadline_by_row_none}
 use Rattle.planner.specs.declared.limit.Limit.{Limit}
 use Rattle.planner.specs.declared.limit.Limit.TheVariants.{Budget, Deadline}
-use Rattle.planner.specs.Limit.{within_limit, result_of, limit_check, row_deadline, row_within}
+use Rattle.planner.specs.Limit.{within_limit, result_of, row_deadline, row_within}
 use Rattle.cells.specs.declared.layout.Layout.{Layout}
 use Rattle.cells.specs.Layout.{layout_of}
 use Rattle.cells.specs.Memory.{row_costs}

@@ -1,5 +1,5 @@
 -- Budgets and deadlines as one
-use Rattle.std.specs.Prelude.{ℕ, ◌+◌, ◌-◌, min, Bool, List, length, Some, None, Ok, Err, Option, nat_lt}
+use Rattle.std.specs.Prelude.{ℕ, ◌+◌, ◌-◌, min, List, length, Some, None, Ok, Err, Option, nat_lt}
 use Rattle.refusals.specs.Answer.{Answer, carrying, refused_if}
 use Rattle.costs.specs.Kind.{Kind}
 use Rattle.tariffs.specs.Meaning.{Meaning}
@@ -8,7 +8,7 @@ use Rattle.sheets.specs.declared.task.Task.{Task}
 use Rattle.model.specs.declared.cell.Cell.{Cell}
 use Rattle.model.specs.declared.point.Point.{Point}
 use Rattle.model.specs.Question.{few_cells}
-use Rattle.model.specs.Limit.{lowest_unquoted, or_none_within, unless_unquoted, within_budget, within_deadline, budget_result, deadline_result}
+use Rattle.model.specs.Limit.{lowest_unquoted, or_none_within, unless_unquoted, within_budget, within_deadline}
 use Rattle.model.specs.Assignment.{standing}
 use Rattle.model.specs.Scan.{first_below}
 use Rattle.planner.specs.declared.limit.Limit.{Limit}

@@ -1,4 +1,6 @@
 // The planner: fronts, budgets, deadlines and plans of a sheet under a tariff, for every cost kind and every tariff.
+#![tactic(auto)]
+
 mod bargains;
 mod fronts;
 mod limit;

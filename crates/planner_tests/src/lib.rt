@@ -1,3 +1,5 @@
+#![tactic(auto)]
+
 // Examples and limits of the planner's questions.
 #[cfg(test)]
 mod bargains;

@@ -1,4 +1,6 @@
 // Refusals: what a refused call tells its caller, alike in every crate.
+#![tactic(auto)]
+
 ghost use Rattle.std.specs.Prelude.{◌≡◌};
 ghost use Rattle.refusals.specs.Answer.{Refused};
 

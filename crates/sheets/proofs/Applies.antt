@@ -1,5 +1,5 @@
 -- Of the refusals that apply to a call the smallest is told
-use Rattle.std.proofs.Common.{◌≡◌, ℕ, ◌<◌, ◌≤◌, Bool, true, false, not, leb, ◌⊎◌, length, Some, None, Ok, Err, Option, refl, ap, ◌∙◌, inl, inr, ⊎_elim, arith}
+use Rattle.std.proofs.Common.{◌≡◌, ℕ, ◌<◌, ◌≤◌, Bool, true, false, not, leb, length, Some, None, Ok, Err, Option, refl, ap, ◌∙◌, inl, inr, ⊎_elim, arith}
 use Rattle.std.specs.List.{slice_get}
 use Rattle.std.proofs.lemmas.Bool.{both_ways, leb-true, leb-false, not-true, not_from_false, and_cases}
 use Rattle.refusals.specs.Answer.{Answer, refused_if}

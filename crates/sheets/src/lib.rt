@@ -1,4 +1,6 @@
 // The sheet of a staged batch: a fixed table of stages and tasks, the calls that alter it, and its history of calls.
+#![tactic(auto)]
+
 mod book;
 mod call;
 mod history;

@@ -1,3 +1,5 @@
+#![tactic(auto)]
+
 // Tests of the sheet at its limits.
 #[cfg(test)]
 mod tests {

@@ -1,4 +1,6 @@
 // `speed CASE RUNS` times the planner on a case, each step so many times.
+#![tactic(auto)]
+
 mod amount;
 mod cases;
 mod memory;

@@ -1,5 +1,5 @@
 -- A quote of a table is that of the first row for the machine and the work
-use Rattle.std.proofs.Common.{◌≡◌, ℕ, true, List, Some, None, Option, sym, refl, ap, ◌∙◌}
+use Rattle.std.proofs.Common.{◌≡◌, ℕ, List, Some, None, Option, refl, ap, ◌∙◌}
 use Rattle.std.specs.Option.{option_map}
 use Rattle.costs.specs.declared.grade.Grade.{Grade}
 use Rattle.tariffs.specs.declared.quote.Quote.{Quote}

@@ -1,5 +1,5 @@
 -- The rate card: its lines, what adds one, and what it quotes
-use Rattle.std.specs.Prelude.{ℕ, Bool, cond, not, List, [], ◌∷◌, ◌++◌, length, take, is_ok, Some, None, Ok, Option, nat_le}
+use Rattle.std.specs.Prelude.{ℕ, cond, not, List, [], ◌∷◌, ◌++◌, length, take, is_ok, Some, None, Ok, Option, nat_le}
 use Rattle.std.specs.List.{slice_get}
 use Rattle.refusals.specs.Answer.{Answer, refused_if}
 use Rattle.work.specs.Work.{work_in_range}

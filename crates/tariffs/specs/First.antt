@@ -1,5 +1,5 @@
 -- The first element of a list that passes a test
-use Rattle.std.specs.Prelude.{◌≡◌, ℕ, suc, ◌<◌, Bool, true, false, cond, List, [], ◌∷◌, length, get_or, Some, None, Option}
+use Rattle.std.specs.Prelude.{ℕ, suc, Bool, cond, List, [], ◌∷◌, Some, None, Option}
 use Rattle.std.specs.Option.{option_map}
 
 abbrev pub find : {A : Type 0} → (A → Bool) → List A → Option A

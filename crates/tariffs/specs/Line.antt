@@ -1,5 +1,5 @@
 -- A line of a rate card, and what it quotes
-use Rattle.std.specs.Prelude.{ℕ, ◌≤◌, min, max, Bool, cond, ◌&&◌, Some, None, Option, nat_le}
+use Rattle.std.specs.Prelude.{ℕ, min, max, Bool, cond, ◌&&◌, Some, None, Option, nat_le}
 use Rattle.std.proofs.Common.{arith}
 use Rattle.costs.specs.declared.cents.Cents.{Cents}
 use Rattle.tariffs.specs.declared.line.Line.{Line}

@@ -1,5 +1,5 @@
 -- The tariff that never quotes
-use Rattle.std.specs.Prelude.{◌≡◌, ℕ, Some, None, refl}
+use Rattle.std.specs.Prelude.{◌≡◌, ℕ, None, refl}
 use Rattle.std.proofs.Common.{arith, lit≤}
 use Rattle.tariffs.specs.declared.never.NeverQuotes.{NeverQuotes}
 use Rattle.tariffs.specs.Meaning.{Meaning, Ranged}

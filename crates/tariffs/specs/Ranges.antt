@@ -1,6 +1,6 @@
 -- That the rate card and the quote table keep the ranges of every tariff.
 -- These are proofs. They stand here since a tariff hands them over as a part of what it means.
-use Rattle.std.specs.Prelude.{◌≡◌, ℕ, suc, ◌+◌, ◌*◌, ◌/◌, ◌%◌, ◌<◌, ◌≤◌, min, Bool, true, false, cond, not, ◌&&◌, ◌||◌, List, [], ◌∷◌, length, is_ok, Some, None, Option, ◌==◌, ◌≢◌, nat_le, nat_lt, refl}
+use Rattle.std.specs.Prelude.{◌≡◌, ℕ, suc, ◌+◌, ◌*◌, ◌/◌, ◌%◌, ◌≤◌, Bool, true, false, cond, not, ◌||◌, List, [], ◌∷◌, length, is_ok, Some, None, Option, ◌==◌, ◌≢◌, nat_le, nat_lt, refl}
 use Rattle.std.proofs.Common.{sym, ap, subst, ◌∙◌, ⊎_elim, arith, lit≤}
 use Rattle.std.proofs.Math.Nat.{div-add-mod}
 use Rattle.std.proofs.lemmas.List.{length-take-le}
@@ -17,8 +17,8 @@ use Rattle.tariffs.specs.declared.quote.Quote.{Quote}
 use Rattle.tariffs.specs.declared.row.Row.{Row}
 use Rattle.tariffs.specs.declared.table.QuoteTable.{QuoteTable}
 use Rattle.tariffs.specs.RoundedUp.{rounded_up}
-use Rattle.tariffs.specs.Line.{line_time, line_quote}
-use Rattle.tariffs.specs.Card.{lines_of, quote_by, card_quote, card_meaning}
+use Rattle.tariffs.specs.Line.{line_time}
+use Rattle.tariffs.specs.Card.{lines_of, quote_by, card_meaning}
 use Rattle.tariffs.specs.First.{find, position}
 use Rattle.tariffs.specs.Rows.{bad_row, rows_verdict, rows_pass, bears}
 use Rattle.tariffs.specs.Table.{row_quote, rows_quote, table_meaning}

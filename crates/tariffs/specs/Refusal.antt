@@ -1,5 +1,4 @@
 -- The numbers of the refusals of cards and of rows, and what they carry
-use Rattle.std.specs.Prelude.{ℕ}
 use Rattle.refusals.specs.Answer.{Refused, plain, carrying}
 use Rattle.tariffs.specs.declared.refusal.CardRefusal.{CardRefusal}
 use Rattle.tariffs.specs.declared.refusal.CardRefusal.TheVariants.{Full, OutOfRange}

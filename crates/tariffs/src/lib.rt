@@ -1,4 +1,6 @@
 // Tariffs: what each hired machine quotes for a work.
+#![tactic(auto)]
+
 mod card;
 mod charge;
 mod line;

@@ -1,3 +1,5 @@
+#![tactic(auto)]
+
 // Examples and limits of costs, texts, tariffs and hires.
 #[cfg(test)]
 mod cards;

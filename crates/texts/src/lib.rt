@@ -1,4 +1,6 @@
 // Text in memory of the caller: numbers as decimal digits, and lines of words.
+#![tactic(auto)]
+
 mod digits;
 mod line;
 mod number;

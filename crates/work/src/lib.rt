@@ -1,4 +1,6 @@
 // Work: the amount that a task asks of a machine, in units.
+#![tactic(auto)]
+
 ghost use Rattle.std.specs.Prelude.{◌≡◌};
 ghost use Rattle.work.specs.Work.{work_in_range};
 

@@ -1,6 +1,6 @@
 -- Points of one length and one number of a grade are one point
 use Rattle.std.proofs.Common.{◌≡◌, ℕ, List, [], ◌∷◌, map, Ok, Err, refl, ap, arith}
-use Rattle.refusals.specs.Answer.{Answer, Refused}
+use Rattle.refusals.specs.Answer.{Answer}
 use Rattle.costs.specs.Same.{same_grade}
 use Rattle.costs.specs.declared.grade.Grade.{Grade}
 use Rattle.model.specs.declared.point.Point.{Point}

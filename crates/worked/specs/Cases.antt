@@ -1,5 +1,5 @@
 -- The printed cases as one statement
-use Rattle.std.specs.Prelude.{◌≡◌, ℕ, ◌≤◌, List, [], ◌∷◌, map, length, Some, None, Ok, Err}
+use Rattle.std.specs.Prelude.{◌≡◌, ℕ, List, [], ◌∷◌, length, Some, None, Ok, Err}
 use Rattle.std.specs.Option.{option_map}
 use Rattle.refusals.specs.Answer.{plain, carrying}
 use Rattle.costs.specs.Cents.{cents, cents_kind}

@@ -1,4 +1,6 @@
 // Worked cases: what the definitions of the planner come to on small samples.
+#![tactic(auto)]
+
 mod cases;
 mod samples;
 

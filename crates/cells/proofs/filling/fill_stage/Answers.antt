@@ -1,9 +1,9 @@
-use Rattle.std.proofs.Common.{◌≡◌, ℕ, ◌+◌, min, sym, ap, ◌∙◌, arith}
+use Rattle.std.proofs.Common.{◌≡◌, ◌+◌, min, sym, ap, ◌∙◌, arith}
 use Rattle.sheets.specs.Book.{book}
 use Rattle.model.specs.Assignment.{stage_tasks}
 use Rattle.model.specs.declared.cell.Cell.{Cell}
 use Rattle.model.specs.Cell.{cost_in}
-use Rattle.cells.specs.Memory.{row_costs, stage_row}
+use Rattle.cells.specs.Memory.{row_costs}
 use Rattle.cells.proofs.Rows.{written_as, written_then}
 use Rattle.cells.proofs.Fillings.{stage_row_like, stage_row_past, row_none, row_untimed, row_costless, row_lowered}
 use Rattle.cells.proofs.filling.fill_stage.Goals as goal

@@ -1,4 +1,4 @@
-use Rattle.std.proofs.Common.{◌≡◌, ◌+◌, List, get_or, Err, sym, ap, ◌∙◌, subst, arith}
+use Rattle.std.proofs.Common.{◌+◌, List, get_or, Err, sym, ap, ◌∙◌, subst, arith}
 use Rattle.refusals.specs.Answer.{Refused}
 use Rattle.tariffs.specs.declared.line.Line.{Line}
 use Rattle.tariffs.specs.Card.{lines_of}

@@ -1,9 +1,8 @@
-use Rattle.std.proofs.Common.{◌≡◌, Ok, Err, sym, ap, ◌∙◌}
+use Rattle.std.proofs.Common.{ap, ◌∙◌}
 use Rattle.refusals.specs.Answer.{Answer}
 use Rattle.numbers.specs.Input.{value_of}
 use Rattle.texts.specs.Write.{write_answer, write_after}
-use Rattle.keyfile.specs.Refusal.{file_told}
-use Rattle.keyinput.specs.Input.{Asked, asked_by, key_in}
+use Rattle.keyinput.specs.Input.{Asked, key_in}
 use Rattle.keyanswer.specs.Answer.{answered, text_of, deciding_bytes}
 use Rattle.keyanswer.proofs.Texts.{first_bytes}
 use Rattle.keyanswer.proofs.answer.answer_key.Goals as goal

@@ -1,9 +1,8 @@
-use Rattle.std.proofs.Common.{◌≡◌, ◌≤◌, length, Ok, ap, arith, rules}
+use Rattle.std.proofs.Common.{◌≡◌, length, Ok, ap, arith, rules}
 use Rattle.refusals.specs.Answer.{Answer}
 use Rattle.numbers.specs.Input.{value_of}
 use Rattle.keyinput.specs.declared.input.KeyInput.{KeyInput}
 use Rattle.keyinput.specs.Input.{Asked, asked_by, key_in}
-use Rattle.keyinput.specs.Spelled.{spelled_input, longest_input}
 use Rattle.numbers.proofs.OnSpellings.{byte_string}
 use Rattle.keyinput.proofs.OnInputs.{accepted_is_spelled}
 use Rattle.keyinput.proofs.OnLengths.{input_bytes}

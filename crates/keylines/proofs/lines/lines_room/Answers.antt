@@ -1,4 +1,4 @@
-use Rattle.std.proofs.Common.{◌≡◌, [], sym, ap, ◌∙◌, arith}
+use Rattle.std.proofs.Common.{[], sym, ap, ◌∙◌, arith}
 use Rattle.texts.specs.Room.{room_behind}
 use Rattle.texts.proofs.Rooms.{room_then, room_first_short, room_left}
 use Rattle.keylines.proofs.Joins.{joined_next, joined_end}

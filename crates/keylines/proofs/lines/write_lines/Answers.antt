@@ -1,4 +1,4 @@
-use Rattle.std.proofs.Common.{◌≡◌, length, is_some, sym, ap, ◌∙◌}
+use Rattle.std.proofs.Common.{length, is_some, sym, ap, ◌∙◌}
 use Rattle.std.specs.List.{flat_map}
 use Rattle.texts.proofs.Pieces.{puts_written}
 use Rattle.texts.proofs.Puts.{short_answer, short_after}

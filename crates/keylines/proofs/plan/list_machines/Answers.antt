@@ -1,4 +1,4 @@
-use Rattle.std.proofs.Common.{◌≡◌, ◌+◌, ◌<◌, ◌≤◌, true, false, ◌++◌, length, get_or, take, drop, sym, ap, ◌∙◌, arith, length-set}
+use Rattle.std.proofs.Common.{◌+◌, ◌<◌, ◌++◌, length, get_or, take, sym, ap, ◌∙◌, arith, length-set}
 use Rattle.std.proofs.lemmas.List.{append-nil}
 use Rattle.keylines.specs.Machine.{assigned}
 use Rattle.keylines.proofs.Machines.{machines_left, machines_struck, machines_standing, machines_all, list_more}

@@ -1,4 +1,4 @@
-use Rattle.std.proofs.Common.{ℕ, List, [], ◌∷◌, ◌++◌, Ok, Err, decimal}
+use Rattle.std.proofs.Common.{[], ◌∷◌, ◌++◌, Ok, Err, decimal}
 use Rattle.std.proofs.lemmas.Result.{err_from_is_err_and}
 use Rattle.texts.proofs.Pieces.{written_puts, first_short, puts_then}
 use Rattle.keylines.proofs.point.put_pair.Goals as goal

@@ -1,4 +1,4 @@
-use Rattle.std.proofs.Common.{◌≡◌, ◌<◌, ◌≤◌, true, length, get_or, sym, ap, arith, ltb-false, ltb-true, leb-false, leb-true}
+use Rattle.std.proofs.Common.{get_or, sym, ap, arith, ltb-false, ltb-true, leb-false, leb-true}
 use Rattle.std.proofs.lemmas.List.{nil_from_length}
 use Rattle.std.proofs.lemmas.Slice.{first_rest}
 use Rattle.std.proofs.lemmas.Result.{err_from_is_err_and}

@@ -1,4 +1,4 @@
-use Rattle.std.proofs.Common.{◌≡◌, ◌+◌, ◌-◌, ◌/◌, ◌<◌, ◌≤◌, [], ◌∷◌, length, sym, ap, ◌∙◌, inl, inr, ⊎_elim, arith, length-set}
+use Rattle.std.proofs.Common.{◌-◌, ◌/◌, ◌<◌, ◌∷◌, length, sym, ap, ◌∙◌, inl, inr, ⊎_elim, arith, length-set}
 use Rattle.numbers.specs.Number.{groups}
 use Rattle.texts.proofs.Puts.{put_one, put_then, put_same}
 use Rattle.numbers.proofs.OnGroups.{one_group, more_groups, some_group, limit_behind}

@@ -1,12 +1,11 @@
-use Rattle.std.proofs.Common.{◌≡◌, false, List, [], sym, refl, ap, ◌∙◌}
+use Rattle.std.proofs.Common.{◌≡◌, false, List, [], sym, ap, ◌∙◌}
 use Rattle.sheets.specs.Book.{book}
 use Rattle.model.specs.declared.cell.Cell.{Cell}
 use Rattle.model.specs.Question.{few_cells, filled, front_answer, front_cells, front_points}
 use Rattle.planner.specs.Bargain.{few_for_both}
 use Rattle.planner.specs.Refusal.{question_told}
 use Rattle.planner.proofs.FirstRow.{cells_filled}
-use Rattle.planner.proofs.Compared.{Ended, neither, ended_few, ended_first, ended_second, ended_both, counts_fit}
-use Rattle.planner.proofs.bargains.compare.Given as given
+use Rattle.planner.proofs.Compared.{neither, ended_few, ended_first, ended_second, ended_both, counts_fit}
 use Rattle.planner.proofs.bargains.compare.Goals as goal
 
 pub returns-then-few_for_both : goal.returns-then-few_for_both

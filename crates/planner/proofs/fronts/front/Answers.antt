@@ -1,16 +1,13 @@
-use Rattle.std.proofs.Common.{◌≡◌, ℕ, ◌<◌, ◌≤◌, Bool, true, false, List, ◌++◌, length, drop, Ok, sym, refl, ap, ◌∙◌, subst, arith}
+use Rattle.std.proofs.Common.{◌≡◌, ◌<◌, ◌≤◌, List, ◌++◌, length, drop, Ok, sym, refl, ap, ◌∙◌, arith}
 use Rattle.sheets.specs.Book.{book}
 use Rattle.sheets.specs.declared.call.Call.TheVariants.{Front}
 use Rattle.sheets.proofs.Histories.{known_further}
 use Rattle.model.specs.declared.point.Point.{Point}
 use Rattle.cells.specs.Layout.{layout_of}
 use Rattle.model.specs.Front.{front}
-use Rattle.model.specs.Question.{few_cells, filled}
-use Rattle.model.specs.Scan.{drops_below}
-use Rattle.cells.specs.Memory.{row_costs}
+use Rattle.model.specs.Question.{few_cells}
 use Rattle.cells.proofs.Laws.{laws_of}
-use Rattle.planner.proofs.FirstRow.{few_from_refused, enough_from_filled, row_is_front, front_refused_7, points_kept_7, cells_filled, front_refused_8, points_kept_8, front_answered, points_written}
-use Rattle.planner.proofs.fronts.front.Given as given
+use Rattle.planner.proofs.FirstRow.{few_from_refused, enough_from_filled, row_is_front, front_refused_7, points_kept_7, front_refused_8, points_kept_8, front_answered, points_written}
 use Rattle.planner.proofs.fronts.front.Goals as goal
 
 pub returns-in-Err : goal.returns-in-Err

@@ -1,4 +1,4 @@
-use Rattle.std.proofs.Common.{◌≡◌, ℕ, ◌≤◌, false, List, [], ◌++◌, length, drop, Some, None, Ok, Err, Option, sym, refl, ap, ◌∙◌, subst, arith}
+use Rattle.std.proofs.Common.{◌≡◌, [], Some, None, sym, ap, ◌∙◌}
 use Rattle.std.proofs.lemmas.Bool.{ltb-false}
 use Rattle.refusals.specs.Answer.{Answer}
 use Rattle.sheets.specs.Book.{book}
@@ -6,14 +6,11 @@ use Rattle.model.specs.declared.point.Point.{Point}
 use Rattle.model.specs.Assignment.{standing}
 use Rattle.cells.specs.Layout.{layout_of}
 use Rattle.model.specs.Limit.{lowest_unquoted, or_none_within}
-use Rattle.model.specs.Plan.{plan}
 use Rattle.model.specs.Question.{few_cells, short_plan, limit_bytes}
-use Rattle.planner.specs.Limit.{within_limit, result_of}
-use Rattle.planner.specs.Row.{HoldsLeastCosts}
+use Rattle.planner.specs.Limit.{within_limit}
 use Rattle.cells.proofs.Laws.{laws_of}
 use Rattle.planner.proofs.FirstRow.{enough_from_filled, cells_filled}
 use Rattle.planner.proofs.WithinLimit.{filled_hold, row_tells, let_through, limit_let_through, cells_let_through}
-use Rattle.planner.proofs.limits.answer_limit.Given as given
 use Rattle.planner.proofs.limits.answer_limit.Goals as goal
 
 pub write_plan-requires : goal.write_plan-requires

@@ -1,4 +1,4 @@
-use Rattle.std.proofs.Common.{refl, rules}
+use Rattle.std.proofs.Common.{refl}
 use Rattle.sheets.specs.declared.call.Call.TheVariants.{Deadline}
 use Rattle.sheets.proofs.Histories.{known_further}
 use Rattle.planner.proofs.limits.deadline.Goals as goal

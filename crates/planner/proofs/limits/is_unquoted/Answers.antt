@@ -1,4 +1,4 @@
-use Rattle.std.proofs.Common.{◌≡◌, Bool, not, ◌&&◌, sym, ap₂}
+use Rattle.std.proofs.Common.{Bool, not, ◌&&◌, sym, ap₂}
 use Rattle.planner.proofs.Quoting.{none_quoting, some_quoting}
 use Rattle.planner.proofs.limits.is_unquoted.Goals as goal
 

@@ -1,5 +1,4 @@
-use Rattle.std.proofs.Common.{◌≡◌, List, sym, ap, ◌∙◌}
-use Rattle.sheets.specs.declared.task.Task.{Task}
+use Rattle.std.proofs.Common.{sym, ap, ◌∙◌}
 use Rattle.sheets.specs.Tasks.{no_task}
 use Rattle.model.specs.Limit.{unquoted}
 use Rattle.tariffs.specs.First.{position}

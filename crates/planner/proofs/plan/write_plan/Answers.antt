@@ -1,4 +1,4 @@
-use Rattle.std.proofs.Common.{◌≡◌, ◌<◌, length, ap, arith}
+use Rattle.std.proofs.Common.{◌≡◌, length, ap, arith}
 use Rattle.sheets.specs.Book.{book}
 use Rattle.sheets.specs.Tasks.{no_task}
 use Rattle.planner.proofs.PlanBytes.{byte_in_plan, written_more, written_all}

@@ -1,4 +1,4 @@
-use Rattle.std.proofs.Common.{◌≡◌, true, false, length, sym, ap, ◌∙◌, arith}
+use Rattle.std.proofs.Common.{sym, ◌∙◌, arith}
 use Rattle.cells.specs.Memory.{row_costs}
 use Rattle.planner.proofs.Points.{drops_counted, drops_uncounted}
 use Rattle.planner.proofs.scan.count_points.Goals as goal

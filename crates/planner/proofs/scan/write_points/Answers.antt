@@ -1,4 +1,4 @@
-use Rattle.std.proofs.Common.{◌≡◌, ℕ, ◌+◌, ◌<◌, ◌≤◌, List, length, Some, sym, ap, ◌∙◌, subst, arith, length-set, rules}
+use Rattle.std.proofs.Common.{◌≡◌, ℕ, ◌+◌, ◌<◌, List, length, Some, sym, ap, ◌∙◌, subst, arith, rules}
 use Rattle.std.specs.Option.{option_to_list}
 use Rattle.model.specs.declared.point.Point.{Point}
 use Rattle.model.specs.Scan.{point_at}

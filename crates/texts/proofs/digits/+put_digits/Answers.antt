@@ -1,4 +1,4 @@
-use Rattle.std.proofs.Common.{sym, ◌∙◌, arith}
+use Rattle.std.proofs.Common.{sym, arith}
 use Rattle.std.proofs.lemmas.Fmt.{decimal_digit, decimal_step}
 use Rattle.texts.proofs.OnDigits.{length_one_digit, length_more_digits}
 use Rattle.texts.proofs.Puts.{put_same, put_then}

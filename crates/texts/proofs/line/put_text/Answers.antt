@@ -1,6 +1,4 @@
-use Rattle.std.proofs.Common.{ℕ, ◌+◌, ◌-◌, List, length, sym, ap, subst, arith}
-use borrow.Rule.Slice.PartMut.{put_mid}
-use Rattle.texts.specs.Put.{Put}
+use Rattle.std.proofs.Common.{length, arith}
 use Rattle.texts.proofs.Puts.{put_part}
 use Rattle.texts.proofs.line.put_text.Goals as goal
 

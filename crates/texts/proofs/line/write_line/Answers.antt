@@ -1,4 +1,4 @@
-use Rattle.std.proofs.Common.{◌≡◌, true, false, length, is_some, sym, ap, ◌∙◌}
+use Rattle.std.proofs.Common.{length, is_some, sym, ap, ◌∙◌}
 use Rattle.texts.specs.Line.{line}
 use Rattle.texts.proofs.Puts.{put_answer, put_after, short_answer, short_after}
 use Rattle.texts.proofs.Rooms.{room_enough, room_lacking}

@@ -1,8 +1,6 @@
-use Rattle.std.proofs.Common.{◌≡◌, ℕ, ◌+◌, ◌<◌, length, Some, None, sym, ap, ◌∙◌, ⊎_elim, arith}
+use Rattle.std.proofs.Common.{◌+◌, ◌∙◌, ⊎_elim, arith}
 use Rattle.std.proofs.lemmas.Bool.{cases_lt}
-use Rattle.std.specs.Option.{SomeIff}
-use Rattle.texts.specs.Room.{room_behind}
-use Rattle.texts.proofs.Rooms.{room_short, room_left, room_checked}
+use Rattle.texts.proofs.Rooms.{room_short, room_checked}
 use Rattle.keylines.specs.Point.{point_line}
 use Rattle.keylines.proofs.Pairs.{length_point_line}
 use Rattle.keylines.proofs.point.PointLine.room_behind.Goals as goal

@@ -1,4 +1,4 @@
-use Rattle.std.proofs.Common.{◌≡◌, length, is_some, sym, ap, ◌∙◌}
+use Rattle.std.proofs.Common.{length, is_some, sym, ap, ◌∙◌}
 use Rattle.texts.proofs.Pieces.{puts_written}
 use Rattle.texts.proofs.Puts.{short_answer, short_after}
 use Rattle.texts.proofs.Rooms.{room_enough, room_lacking}

@@ -1,4 +1,4 @@
-use Rattle.std.proofs.Common.{◌≡◌, ℕ, Ok, Err, sym, refl, ap}
+use Rattle.std.proofs.Common.{ℕ, sym, refl, ap}
 use Rattle.numbers.specs.Input.{Reading, value_of, left_by}
 use Rattle.numbers.specs.Reader.{input_of}
 use Rattle.numbers.proofs.OnSpellings.{number_read, number_refused, one_spelling, spellings_are_read, only_spellings_are_read}

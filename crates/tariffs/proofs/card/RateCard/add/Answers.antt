@@ -1,6 +1,5 @@
 use Rattle.std.proofs.Common.{◌≡◌, ◌<◌, [], ◌∷◌, ◌++◌, length, Ok, sym, ap, ◌∙◌, arith, rules}
 use Rattle.std.proofs.lemmas.List.{take_more_set}
-use Rattle.refusals.specs.Answer.{Answer}
 use Rattle.tariffs.specs.Card.{lines_of}
 use Rattle.tariffs.specs.Line.{line, line_in_range}
 use Rattle.tariffs.specs.Ranges.{length_lines, some_through}

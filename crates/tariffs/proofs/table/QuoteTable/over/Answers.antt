@@ -1,5 +1,4 @@
-use Rattle.std.proofs.Common.{◌≡◌, Some, None, Option, sym, refl, ap, ◌∙◌, rules}
-use Rattle.std.specs.Option.{option_map}
+use Rattle.std.proofs.Common.{rules}
 use Rattle.tariffs.proofs.Tables.{first_row_quotes}
 use Rattle.tariffs.proofs.table.QuoteTable.over.Goals as goal
 

@@ -1,4 +1,4 @@
-use Rattle.std.proofs.Common.{◌≡◌, length, sym, refl, ap, ◌∙◌, arith, below_none, below_more}
+use Rattle.std.proofs.Common.{length, sym, ap, ◌∙◌, arith, below_none, below_more}
 use Rattle.std.proofs.lemmas.Bool.{cond-true, cond-false, lt-ltb, le-ltb}
 use Rattle.tariffs.specs.Rows.{bad_row, rows_verdict, no_row}
 use Rattle.tariffs.proofs.Firsts.{sought_none, sought_more, sought_here, sought_all}

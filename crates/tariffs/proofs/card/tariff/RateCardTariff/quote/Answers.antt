@@ -1,4 +1,4 @@
-use Rattle.std.proofs.Common.{◌≡◌, sym, ◌∙◌, arith}
+use Rattle.std.proofs.Common.{sym, ◌∙◌, arith}
 use Rattle.tariffs.specs.Ranges.{length_lines, card_ranged}
 use Rattle.tariffs.proofs.Cards.{quote_at}
 use Rattle.tariffs.proofs.card.tariff.RateCardTariff.quote.Goals as goal

@@ -1,8 +1,7 @@
-use Rattle.std.proofs.Common.{◌≡◌, ℕ, true, get_or, Some, sym, ap, ◌∙◌}
+use Rattle.std.proofs.Common.{◌≡◌, true, get_or, Some, sym, ap, ◌∙◌}
 use Rattle.std.proofs.lemmas.Bool.{cond-true}
 use Rattle.std.specs.Option.{option_map}
 use Rattle.costs.specs.declared.grade.Grade.{Grade}
-use Rattle.tariffs.specs.declared.quote.Quote.{Quote}
 use Rattle.tariffs.specs.declared.row.Row.{Row}
 use Rattle.tariffs.specs.Rows.{bears, no_row, rows_pass}
 use Rattle.tariffs.specs.Table.{row_quote}
