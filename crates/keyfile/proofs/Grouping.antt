@@ -1,6 +1,6 @@
 -- The tasks of works given stage by stage, and the works of tasks
 use Rattle.std.proofs.Common.{◌≡◌, ℕ, zero, suc, ◌+◌, ◌<◌, ◌≤◌, true, false, not, eqb, List, [], ◌∷◌, ◌++◌, map, length, filter, sym, refl, ap, ◌∙◌, ⊎_elim, append_assoc, arith}
-use Rattle.std.specs.List.{range_with_len, AllByRecursion as All}
+use Rattle.std.specs.List.{range_with_len, AllByRecursion}
 use Rattle.std.proofs.lemmas.List.Elements.{filter-append}
 use Rattle.std.proofs.ByRecursion.{All-append, All-weaker, all_kept_by, All-map}
 use Rattle.std.proofs.lemmas.List.{map-append, append-nil}
@@ -19,7 +19,7 @@ works_append : (tasks others : List Task) (stage : ℕ) → stage_works (tasks +
 works_append tasks others stage =
     ap (map (λ (task : Task). task.work)) (filter-append (stands_in stage) tasks others) ∙ map-append (λ (task : Task). task.work) (filter (stands_in stage) tasks) (filter (stands_in stage) others)
 
-works_elsewhere : (tasks : List Task) (stage : ℕ) → All (λ task. task.stage ≡ stage → ⊥) tasks → stage_works tasks stage ≡ []
+works_elsewhere : (tasks : List Task) (stage : ℕ) → AllByRecursion (λ task. task.stage ≡ stage → ⊥) tasks → stage_works tasks stage ≡ []
 works_elsewhere [] stage all = refl
 works_elsewhere (task ∷ tasks) stage all =
     ap (map (λ (task : Task). task.work)) (cond-false (stands_in stage task) _ _ (and_right _ _ (ne_eqb task.stage stage all.0)))
@@ -31,17 +31,17 @@ works_here stage (work ∷ works) =
     ap (map (λ (task : Task). task.work)) (cond-true (stands_in stage (new_task stage work)) _ _ (eq-eqb stage stage refl))
     ∙ ap (λ l. work ∷ l) (works_here stage works)
 
-all_new : (P : Task → Type 0) (stage : ℕ) (works : List ℕ) → ((work : ℕ) → P (new_task stage work)) → All P (map (new_task stage) works)
+all_new : (P : Task → Type 0) (stage : ℕ) (works : List ℕ) → ((work : ℕ) → P (new_task stage work)) → AllByRecursion P (map (new_task stage) works)
 all_new P stage [] h = tt
 all_new P stage (work ∷ works) h = (h work, all_new P stage works h)
 
-tasks_at_least : (low stage : ℕ) (stages : List (List ℕ)) → low ≤ stage → All (λ task. low ≤ task.stage) (tasks_from stage stages)
+tasks_at_least : (low stage : ℕ) (stages : List (List ℕ)) → low ≤ stage → AllByRecursion (λ task. low ≤ task.stage) (tasks_from stage stages)
 tasks_at_least low stage [] h = tt
 tasks_at_least low stage (works ∷ stages) h =
     All-append (λ task. low ≤ task.stage) (map (new_task stage) works) (tasks_from (stage + 1) stages) (all_new (λ task. low ≤ task.stage) stage works (λ work. h)) (tasks_at_least low (stage + 1) stages (omega arith))
 
 -- the works of tasks that were made of works are those works
-pub grouped : (tasks : List Task) (stage : ℕ) (stages : List (List ℕ)) → All (λ task. task.stage < stage) tasks → map (stage_works (tasks ++ tasks_from stage stages)) (range_with_len stage (length stages)) ≡ stages
+pub grouped : (tasks : List Task) (stage : ℕ) (stages : List (List ℕ)) → AllByRecursion (λ task. task.stage < stage) tasks → map (stage_works (tasks ++ tasks_from stage stages)) (range_with_len stage (length stages)) ≡ stages
 grouped tasks stage [] below = refl
 grouped tasks stage (works ∷ stages) below =
     ap (λ l. l ∷ map (stage_works (tasks ++ (map (new_task stage) works ++ tasks_from (stage + 1) stages))) (range_with_len (stage + 1) (length stages))) here
@@ -56,7 +56,7 @@ grouped tasks stage (works ∷ stages) below =
         ∙ append-nil (stage_works (map (new_task stage) works) stage)
         ∙ works_here stage works
 
-    below_next : All (λ task. task.stage < stage + 1) (tasks ++ map (new_task stage) works)
+    below_next : AllByRecursion (λ task. task.stage < stage + 1) (tasks ++ map (new_task stage) works)
     below_next =
         All-append (λ task. task.stage < stage + 1) tasks (map (new_task stage) works) (All-weaker (λ task. task.stage < stage) (λ task. task.stage < stage + 1) (λ task h. omega arith) tasks below) (all_new (λ task. task.stage < stage + 1) stage works (λ work. omega arith))
 
@@ -101,7 +101,7 @@ counted (task ∷ tasks) stage count = let once = counted_once task tasks stage 
 abbrev pub InRange : ℕ → Type 0
 InRange work = (1 ≤ work) × (work ≤ max_work)
 
-pub works_in_range : (limit : ℕ) (tasks : List Task) → All (SoundTask limit) tasks → (stage count : ℕ) → All (All InRange) (map (stage_works tasks) (range_with_len stage count))
+pub works_in_range : (limit : ℕ) (tasks : List Task) → AllByRecursion (SoundTask limit) tasks → (stage count : ℕ) → AllByRecursion (AllByRecursion InRange) (map (stage_works tasks) (range_with_len stage count))
 works_in_range limit tasks sound stage zero = tt
 works_in_range limit tasks sound stage (suc count) = (
   All-map InRange (λ (task : Task). task.work) (filter (stands_in stage) tasks) (All-weaker (SoundTask limit) (λ task. InRange task.work) (λ task s. (s.1, s.2)) _ (all_kept_by (stands_in stage) (SoundTask limit) tasks sound)),

@@ -1,6 +1,6 @@
 -- What is written is read again, and what is read was so written
 use Rattle.std.proofs.Common.{◌≡◌, ℕ, zero, suc, ◌+◌, ◌^◌, ◌<◌, ◌≤◌, Bool, true, false, not, ltb, leb, List, [], ◌∷◌, ◌++◌, map, length, IfOk, Ok, Err, Option, Result, sym, refl, ap, ◌∙◌, subst, append_assoc, add-zero, arith, length-append}
-use Rattle.std.specs.List.{range_with_len, flat_map as joined, AllByRecursion as All}
+use Rattle.std.specs.List.{range_with_len, flat_map as joined, AllByRecursion}
 use Rattle.std.proofs.lemmas.List.FromFn.{length-map-range_with_len}
 use Rattle.std.proofs.lemmas.List.{append-nil, length-map, nil_from_length}
 use Rattle.std.proofs.lemmas.Bool.{cond-false, lt-leb, le-leb, ltb-false, and_from}
@@ -252,7 +252,7 @@ number_then n place rest next h = ap (λ (r : Reading ℕ). then r next) (spelli
 along : (place : ℕ) (p q rest : List ℕ) → input (place + length p + length q) rest ≡ input (place + length (p ++ q)) rest
 along place p q rest = let l = length-append p q in ap (λ n. input n rest) (omega arith)
 
-tasks_written : (stage stages : ℕ) (works : List ℕ) (tasks : List Task) (place : ℕ) (rest : List ℕ) → stage < stages → length tasks + length works ≤ max_tasks → All InRange works → repeated (length works) (task_in stage) (book_of stages tasks) (input place (joined spelled works ++ rest)) ≡ Ok (book_of stages (tasks ++ map (new_task stage) works), input (place + length (joined spelled works)) rest)
+tasks_written : (stage stages : ℕ) (works : List ℕ) (tasks : List Task) (place : ℕ) (rest : List ℕ) → stage < stages → length tasks + length works ≤ max_tasks → AllByRecursion InRange works → repeated (length works) (task_in stage) (book_of stages tasks) (input place (joined spelled works ++ rest)) ≡ Ok (book_of stages (tasks ++ map (new_task stage) works), input (place + length (joined spelled works)) rest)
 tasks_written stage stages [] tasks place rest here room range =
     ap (λ (found : Book × Input). Ok found) (ap (λ (ts : List Task). (book_of stages ts, input place rest)) (sym (append-nil tasks)) ∙ ap (λ n. (book_of stages (tasks ++ []), input n rest)) (sym (add-zero place)))
 tasks_written stage stages (work ∷ works) tasks place rest here room range =
@@ -270,7 +270,7 @@ tasks_written stage stages (work ∷ works) tasks place rest here room range =
     ∙ ap (λ (ts : List Task). Ok (book_of stages ts, input (place + length (spelled work) + length (joined spelled works)) rest)) (append_assoc tasks (new_task stage work ∷ []) (map (new_task stage) works))
     ∙ ap (λ (i : Input). Ok (book_of stages (tasks ++ map (new_task stage) (work ∷ works)), i)) (along place (spelled work) (joined spelled works) rest)
 
-stages_written : (stages : List (List ℕ)) (count : ℕ) (tasks : List Task) (place : ℕ) (rest : List ℕ) → count + length stages ≤ max_stages → length tasks + total stages ≤ max_tasks → All (All InRange) stages → repeated (length stages) stage_in (book_of count tasks) (input place (joined spelled_stage stages ++ rest)) ≡ Ok (book_of (count + length stages) (tasks ++ tasks_from count stages), input (place + length (joined spelled_stage stages)) rest)
+stages_written : (stages : List (List ℕ)) (count : ℕ) (tasks : List Task) (place : ℕ) (rest : List ℕ) → count + length stages ≤ max_stages → length tasks + total stages ≤ max_tasks → AllByRecursion (AllByRecursion InRange) stages → repeated (length stages) stage_in (book_of count tasks) (input place (joined spelled_stage stages ++ rest)) ≡ Ok (book_of (count + length stages) (tasks ++ tasks_from count stages), input (place + length (joined spelled_stage stages)) rest)
 stages_written [] count tasks place rest few room range =
     ap (λ (found : Book × Input). Ok found) (ap (λ (ts : List Task). (book_of count ts, input place rest)) (sym (append-nil tasks)) ∙ ap (λ n. (book_of n (tasks ++ []), input place rest)) (sym (add-zero count)) ∙ ap (λ n. (book_of (count + 0) (tasks ++ []), input n rest)) (sym (add-zero place)))
 stages_written (works ∷ stages) count tasks place rest few room range =

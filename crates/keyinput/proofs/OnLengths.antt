@@ -1,6 +1,6 @@
 -- How many bytes an input has
 use Rattle.std.proofs.Common.{◌≡◌, ℕ, zero, suc, ◌+◌, ◌*◌, ◌/◌, ◌%◌, ◌<◌, ◌≤◌, Bool, cond, ltb, List, [], ◌∷◌, ◌++◌, length, refl, ap, ⊎_elim, arith, length-append}
-use Rattle.std.specs.List.{flat_map, AllByRecursion as All}
+use Rattle.std.specs.List.{flat_map, AllByRecursion}
 use Rattle.std.proofs.lemmas.List.FromFn.{length-map-range_with_len}
 use Rattle.std.proofs.lemmas.List.{length-take}
 use Rattle.std.proofs.lemmas.Bool.{cond_both, lt-ltb, cases_lt}
@@ -55,7 +55,7 @@ count_bytes n h =
     (λ great. let e = two_bytes n (omega arith) in omega arith)
     (cases_lt n 128)
 
-works_bytes : (works : List ℕ) → All InRange works → length (flat_map spelled works) ≤ 3 * length works
+works_bytes : (works : List ℕ) → AllByRecursion InRange works → length (flat_map spelled works) ≤ 3 * length works
 works_bytes [] range = omega arith
 works_bytes (work ∷ works) range =
     let l = length-append (spelled work) (flat_map spelled works) in
@@ -63,7 +63,7 @@ works_bytes (work ∷ works) range =
     let rest = works_bytes works range.1 in
     omega arith
 
-stages_bytes : (stages : List (List ℕ)) → total stages ≤ 256 → All (All InRange) stages → 128 * length (flat_map spelled_stage stages) ≤ 128 * length stages + 385 * total stages
+stages_bytes : (stages : List (List ℕ)) → total stages ≤ 256 → AllByRecursion (AllByRecursion InRange) stages → 128 * length (flat_map spelled_stage stages) ≤ 128 * length stages + 385 * total stages
 stages_bytes [] few range = omega arith
 stages_bytes (works ∷ stages) few range =
     let l = length-append (spelled_stage works) (flat_map spelled_stage stages) in

@@ -1,6 +1,6 @@
 -- Costs joined stage by stage are the costs joined by task number
 use Rattle.std.proofs.Common.{◌≡◌, ℕ, zero, suc, ◌+◌, ◌<◌, ◌≤◌, Bool, true, false, cond, ◌⊎◌, List, [], ◌∷◌, map, length, sym, refl, ap, ◌∙◌, ap₂, inl, inr, zero-le, arith}
-use Rattle.std.specs.List.{range_with_len, AllByRecursion as All}
+use Rattle.std.specs.List.{range_with_len, AllByRecursion}
 use Rattle.std.proofs.lemmas.Bool.{eq-eqb, ne_eqb, cases_eq}
 use Rattle.costs.specs.Kind.{Kind, Laws}
 use Rattle.tariffs.specs.Meaning.{Meaning}
@@ -68,7 +68,7 @@ module _ {C : Type 0} {K : Kind C} (L : Laws K) (T : Meaning C) where
           ap₂ K.join (stage_more task byte tasks bytes i false (stands_elsewhere task i s h)) (ih later)
           ∙ swapped (stage_joined tasks bytes i) (quoted_cost task byte) (Joined tasks bytes (i + 1) n)
 
-  joined_all : (stages : ℕ) (tasks : List Task) (bytes : List ℕ) → length bytes ≡ length tasks → All (SoundTask stages) tasks → Joined tasks bytes 0 stages ≡ joined_by_number K T tasks bytes
+  joined_all : (stages : ℕ) (tasks : List Task) (bytes : List ℕ) → length bytes ≡ length tasks → AllByRecursion (SoundTask stages) tasks → Joined tasks bytes 0 stages ≡ joined_by_number K T tasks bytes
   joined_all stages [] [] e a = none_joined 0 stages
   joined_all stages [] (byte ∷ bytes) e a = absurd (omega arith)
   joined_all stages (task ∷ tasks) [] e a = absurd (omega arith)

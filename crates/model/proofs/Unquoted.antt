@@ -1,6 +1,6 @@
 -- Standing tasks without any quote
 use Rattle.std.proofs.Common.{◌≡◌, ℕ, zero, suc, ◌<◌, Bool, true, false, cond, not, ◌||◌, ◌↔◌, List, [], ◌∷◌, is_some, Some, None, Option, sym, refl, ap, ◌∙◌, subst, inl, inr, zero-le, arith}
-use Rattle.std.specs.List.{range_with_len, AllByRecursion as All, slice_get}
+use Rattle.std.specs.List.{range_with_len, AllByRecursion, slice_get}
 use Rattle.std.specs.Option.{option_map}
 use Rattle.std.proofs.lemmas.Bool.{both_ways, and_parts, and_from, not-true, not_from_false, cases_order}
 use Rattle.costs.specs.Kind.{Kind}
@@ -51,7 +51,7 @@ same_bool true y f g = sym (f refl)
 same_bool false true f g = g refl
 same_bool false false f g = refl
 
-pub all_in : {A : Type 0} (P : A → Type 0) {x : A} (xs : List A) → All P xs → In x xs → P x
+pub all_in : {A : Type 0} (P : A → Type 0) {x : A} (xs : List A) → AllByRecursion P xs → In x xs → P x
 all_in P [] a i = elim i [ ]
 all_in P (y ∷ ys) a (here e) = subst P (sym e) a.0
 all_in P (y ∷ ys) a (later i) = all_in P ys a.1 i

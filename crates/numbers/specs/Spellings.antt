@@ -1,6 +1,6 @@
 -- Each number has one spelling, and a number is read exactly where its spelling stands
 use Rattle.std.specs.Prelude.{◌≡◌, ℕ, ◌+◌, ◌^◌, ◌<◌, List, ◌++◌, length, Ok}
-use Rattle.std.specs.List.{AllByRecursion as All}
+use Rattle.std.specs.List.{AllByRecursion}
 use Rattle.numbers.specs.Input.{Input, input}
 use Rattle.numbers.specs.Number.{spelled, number_in}
 
@@ -14,7 +14,7 @@ SpellingsAreRead =
     → number_in (input place (spelled n ++ rest)) ≡ Ok (n, input (place + length (spelled n)) rest)
 
 abbrev pub ByteString : List ℕ → Type 0
-ByteString bytes = All (λ byte. byte < 256) bytes
+ByteString bytes = AllByRecursion (λ byte. byte < 256) bytes
 
 -- what is read was spelled, and the input left stands behind it
 pub record SpelledAt (before : Input) (n : ℕ) (left : Input) : Type 0 where

@@ -1,7 +1,7 @@
 -- The laws of histories
 use Rattle.std.proofs.Common.{◌≡◌, ℕ, zero, suc, ◌+◌, ◌≤◌, true, List, [], ◌∷◌, ◌++◌, length, Some, None, Ok, Err, Option, sym, refl, ap, ◌∙◌, subst, arith}
 use Rattle.std.specs.Option.{option_map}
-use Rattle.std.specs.List.{AllByRecursion as All, slice_get}
+use Rattle.std.specs.List.{AllByRecursion, slice_get}
 use Rattle.std.proofs.ByRecursion.{All-push, All-weaker, All-from_get_or}
 use Rattle.std.proofs.lemmas.List.{length_push}
 use Rattle.std.proofs.lemmas.Bool.{both_ways, not_from_true}
@@ -39,7 +39,7 @@ length_changed change n [] = refl
 length_changed change zero (task ∷ tasks) = refl
 length_changed change (suc n) (task ∷ tasks) = ap suc (length_changed change n tasks)
 
-all_changed : (P : Task → Type 0) (change : Task → Task) → ((task : Task) → P task → P (change task)) → (n : ℕ) (tasks : List Task) → All P tasks → All P (changed change n tasks)
+all_changed : (P : Task → Type 0) (change : Task → Task) → ((task : Task) → P task → P (change task)) → (n : ℕ) (tasks : List Task) → AllByRecursion P tasks → AllByRecursion P (changed change n tasks)
 all_changed P change keeps n [] all = tt
 all_changed P change keeps zero (task ∷ tasks) all = (keeps task all.0, all.1)
 all_changed P change keeps (suc n) (task ∷ tasks) all = (all.0, all_changed P change keeps n tasks all.1)

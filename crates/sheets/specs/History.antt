@@ -1,7 +1,7 @@
 -- Histories: the calls of a sheet since it was opened, first call first, refused ones included
 use Rattle.std.specs.Prelude.{◌≡◌, ℕ, ◌<◌, ◌≤◌, true, List, [], ◌∷◌, ◌++◌, length, Some, Ok, Err}
 use Rattle.std.specs.Option.{option_map}
-use Rattle.std.specs.List.{AllByRecursion as All, slice_get}
+use Rattle.std.specs.List.{AllByRecursion, slice_get}
 use Rattle.refusals.specs.Answer.{Refused}
 use Rattle.sheets.specs.declared.call.Call.{Call}
 use Rattle.sheets.specs.declared.call.Call.TheVariants.{Task as NewTask}
@@ -29,7 +29,7 @@ KnownFurther before call afterwards = (calls : List Call) → Known before calls
 pub record Sound (book : Book) : Type 0 where
   pub few_stages : book.stages ≤ max_stages
   pub few_tasks : length book.tasks ≤ max_tasks
-  pub tasks_sound : All (SoundTask book.stages) book.tasks
+  pub tasks_sound : AllByRecursion (SoundTask book.stages) book.tasks
 
 -- the laws of every history
 
