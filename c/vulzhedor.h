@@ -1,7 +1,7 @@
 /*
  * Vulzhedor: charges, quotes, answers to inputs, and whether two inputs offer the same bargains.
  *
- * `rt staticlib capi` proves these functions and writes target/staticlib/libcapi.a. docs/RULES.md has the rules, the form
+ * `rt lib` in crates/capi proves these functions and writes out/libcapi.a there. docs/RULES.md has the rules, the form
  * of an input and every refusal.
  *
  * What the caller owes: no pointer is NULL, also where a length is 0; a pointer with a length points to so many bytes;
