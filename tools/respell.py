@@ -19,6 +19,9 @@ FIELD = re.compile(r"^\s+(?:pub )?([A-Za-z][\w'′-]*) :")
 GOAL = re.compile(r"^(?:abbrev )?(?:pub )?([^\s:]+) : goal\.")
 BINDER = re.compile(r"^(?:abbrev |unfoldable |pub |record |data |open )*([A-Za-z][\w'′-]*)(?= |$)", re.M)
 
+# names that the kit's script leaves half turned
+HALF = {"Laid_out": "LaidOut", "get_d_rows": "get_or_rows"}
+
 # what Rattle makes stands behind these
 MADE = {"c", "l", "goal", "g", "w"}
 
@@ -94,6 +97,9 @@ def turn(path, text, crates, own_fields, own):
     present = {w for w in words if NAME.match(w)}
     fallen, out = set(), []
     for i, w in enumerate(words):
+        if w in HALF:
+            out.append(HALF[w])
+            continue
         dashed = NAME.match(w) and ("-" in w or "′" in w)
         if not dashed:
             out.append(w)

@@ -8,7 +8,7 @@ use Rattle.costs.specs.Kind.{Kind}
 use Rattle.tariffs.specs.Meaning.{Meaning}
 use Rattle.sheets.specs.Book.{Book}
 use Rattle.model.specs.declared.cell.Cell.{Cell}
-use Rattle.model.specs.Cell.{width, place, cells_needed, cell, row, table, Laid_out, CellsStandAtTheirPlaces}
+use Rattle.model.specs.Cell.{width, place, cells_needed, cell, row, table, LaidOut, CellsStandAtTheirPlaces}
 
 -- rows of one length, one after another
 module _ {A : Type 0} (rows : ℕ → List A) (w : ℕ) (even : (j : ℕ) → length (rows j) ≡ w) where
@@ -16,13 +16,13 @@ module _ {A : Type 0} (rows : ℕ → List A) (w : ℕ) (even : (j : ℕ) → le
   length_rows a zero = sym (zero-mul w)
   length_rows a (suc n) = length-append (rows a) _ ∙ ap₂ (λ (x y : ℕ). x + y) (even a) (length_rows (a + 1) n) ∙ omega (arith, suc-mul n w)
 
-  get_d_rows : (a n j t : ℕ) (d : A) → j < n → t < w → get_or (concatenated rows (range_with_len a n)) (j * w + t) d ≡ get_or (rows (a + j)) t d
-  get_d_rows a zero j t d l m = absurd (omega arith)
-  get_d_rows a (suc n) zero t d l m = ap (λ (i : ℕ). get_or (rows a ++ concatenated rows (range_with_len (a + 1) n)) i d) (let e : 0 * w + t ≡ t = omega (arith, zero-mul w) in e) ∙ get_or_append_left (rows a) _ d t (omega (arith, even a)) ∙ ap (λ (i : ℕ). get_or (rows i) t d) (let e : a ≡ a + 0 = omega arith in e)
-  get_d_rows a (suc n) (suc j) t d l m =
+  get_or_rows : (a n j t : ℕ) (d : A) → j < n → t < w → get_or (concatenated rows (range_with_len a n)) (j * w + t) d ≡ get_or (rows (a + j)) t d
+  get_or_rows a zero j t d l m = absurd (omega arith)
+  get_or_rows a (suc n) zero t d l m = ap (λ (i : ℕ). get_or (rows a ++ concatenated rows (range_with_len (a + 1) n)) i d) (let e : 0 * w + t ≡ t = omega (arith, zero-mul w) in e) ∙ get_or_append_left (rows a) _ d t (omega (arith, even a)) ∙ ap (λ (i : ℕ). get_or (rows i) t d) (let e : a ≡ a + 0 = omega arith in e)
+  get_or_rows a (suc n) (suc j) t d l m =
       ap (λ (i : ℕ). get_or (rows a ++ concatenated rows (range_with_len (a + 1) n)) i d) (let e : suc j * w + t ≡ length (rows a) + (j * w + t) = omega (arith, suc-mul j w, even a) in e)
       ∙ get_or-append-add (rows a) (concatenated rows (range_with_len (a + 1) n)) (j * w + t) d
-      ∙ get_d_rows (a + 1) n j t d (omega arith) m
+      ∙ get_or_rows (a + 1) n j t d (omega arith) m
       ∙ ap (λ (i : ℕ). get_or (rows i) t d) (let e : a + 1 + j ≡ a + suc j = omega arith in e)
 
 module _ {C : Type 0} (K : Kind C) (T : Meaning C) (book : Book) where
@@ -32,10 +32,10 @@ module _ {C : Type 0} (K : Kind C) (T : Meaning C) (book : Book) where
   pub get_or_row : (j t : ℕ) (d : Cell C) → t < width T book → get_or (row K T book j) t d ≡ cell K T book j t
   get_or_row j t d l = get_or-map-range_with_len (cell K T book j) 0 (width T book) t t d l (omega arith)
 
-  pub laid_out : Laid_out K T book
+  pub laid_out : LaidOut K T book
   laid_out = record {
     size = length_rows (row K T book) (width T book) length_row 0 (book.stages + 1);
-    at_place = λ j t d l m. get_d_rows (row K T book) (width T book) length_row 0 (book.stages + 1) j t d (omega arith) m ∙ ap (λ (i : ℕ). get_or (row K T book i) t d) (zero-add j) ∙ get_or_row j t d m;
+    at_place = λ j t d l m. get_or_rows (row K T book) (width T book) length_row 0 (book.stages + 1) j t d (omega arith) m ∙ ap (λ (i : ℕ). get_or (row K T book i) t d) (zero-add j) ∙ get_or_row j t d m;
   }
 
   -- cells that hold the right cell at each place are the table

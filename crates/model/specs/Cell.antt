@@ -69,13 +69,13 @@ module _ {C : Type 0} (K : Kind C) (T : Meaning C) where
   offer tasks stages t a = cond (nat_le a t && is_time T tasks a) (joined K (cost_within K T tasks a) (least_cost stages (t - a))) None
 
 -- each cell stands at its place
-pub record Laid_out {C : Type 0} (K : Kind C) (T : Meaning C) (book : Book) : Type 0 where
+pub record LaidOut {C : Type 0} (K : Kind C) (T : Meaning C) (book : Book) : Type 0 where
   pub size : length (table K T book) ≡ cells_needed T book
   pub at_place : (j t : ℕ) (d : Cell C) → j ≤ book.stages → t < width T book → slice_index_or (table K T book) (place T book j t) d ≡ cell K T book j t
 
 -- for every tariff and book
 abbrev pub CellsStandAtTheirPlaces : {C : Type 0} → Kind C → Type 0
-CellsStandAtTheirPlaces {C} K = (T : Meaning C) (book : Book) → Laid_out K T book
+CellsStandAtTheirPlaces {C} K = (T : Meaning C) (book : Book) → LaidOut K T book
 
 -- least costs in words, and stage by stage
 pub record LeastCosts {C : Type 0} (K : Kind C) (T : Meaning C) : Type 0 where
