@@ -5,7 +5,8 @@ or, where the name begins with a capital, the next word's capital; a prime becom
 usage: python3 tools/respell.py        at the top of the repository
 
 Left alone: names that a file imports from a library, names that Rattle makes (goals, steps of the code), functions of
-src/, strings and comments. A name that would fall together with another one of its file is printed and left.
+src/, strings and comments. A name that falls together with another word of its file is printed, to be looked at: a
+definition may have the name of the function whose result it gives.
 """
 import glob
 import re
@@ -17,10 +18,14 @@ NAME = re.compile(r"^[A-Za-z][\w'′-]*$")
 IMPORT = re.compile(r"^\s*(?:ghost )?(?:pub )?use ([^;{}\n]*?)\.?\{([^}]*)\}", re.M)
 FIELD = re.compile(r"^\s+(?:pub )?([A-Za-z][\w'′-]*) :")
 GOAL = re.compile(r"^(?:abbrev )?(?:pub )?([^\s:]+) : goal\.")
-BINDER = re.compile(r"^(?:abbrev |unfoldable |pub |record |data |open )*([A-Za-z][\w'′-]*)(?= |$)", re.M)
 
-# names that the kit's script leaves half turned
-HALF = {"Laid_out": "LaidOut", "get_d_rows": "get_or_rows"}
+# names that the kit's script leaves half turned, and a field that begins with a letter of a sheet
+BY_HAND = {
+    "Laid_out": "LaidOut",
+    "get_d_rows": "get_or_rows",
+    "X-by-A-needs-51-cells": "x_by_A_needs_51_cells",
+    "XByANeeds51Cells": "x_by_A_needs_51_cells",
+}
 
 # what Rattle makes stands behind these
 MADE = {"c", "l", "goal", "g", "w"}
@@ -97,8 +102,8 @@ def turn(path, text, crates, own_fields, own):
     present = {w for w in words if NAME.match(w)}
     fallen, out = set(), []
     for i, w in enumerate(words):
-        if w in HALF:
-            out.append(HALF[w])
+        if w in BY_HAND:
+            out.append(BY_HAND[w])
             continue
         dashed = NAME.match(w) and ("-" in w or "′" in w)
         if not dashed:

@@ -39,7 +39,7 @@ pub record PrintedCases : Type 0 where
   pub front_of_X_by_A :
       front cents_kind A X
       ≡ priced 3 400 ∷ priced 4 375 ∷ priced 6 300 ∷ priced 7 285 ∷ priced 8 275 ∷ priced 9 260 ∷ priced 12 245 ∷ priced 13 235 ∷ priced 16 220 ∷ []
-  pub XByANeeds51Cells : cells_needed A X ≡ 51
+  pub x_by_A_needs_51_cells : cells_needed A X ≡ 51
   pub fifty_cells_are_too_few : (cells : List (Cell Cents)) (points : List (Point Cents)) → length cells ≡ 50
       → front_answer cents_kind A X cells points ≡ Err (plain 7)
   pub fifty_one_cells_suffice : (cells : List (Cell Cents)) (points : List (Point Cents)) → length cells ≡ 51 → length points ≡ 9
