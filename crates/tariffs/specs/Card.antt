@@ -35,4 +35,4 @@ abbrev pub lines_meaning : List Line → Meaning Cents
 lines_meaning lines = record { count = length lines; quote = card_quote lines }
 
 abbrev pub card_meaning : RateCard → Meaning Cents
-card_meaning card = lines_meaning (lines_of card)
+card_meaning card = record { count = length (lines_of card); quote = card_quote (lines_of card) }
