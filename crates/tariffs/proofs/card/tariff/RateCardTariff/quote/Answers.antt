@@ -15,4 +15,4 @@ returns-then-machine-self c =
 pub returns : goal.returns
 returns c =
     c.quote.ensures
-    ∙ sym (quote_at c.args.self.now c.args.machine c.args.work c.index-self-machine.result c.if-machine-self.false (sym c.if-not-work_in_range.ensures))
+    ∙ sym (quote_at c.args.self.now c.args.machine c.args.work _ c.if-machine-self.false (sym c.if-not-work_in_range.ensures))
