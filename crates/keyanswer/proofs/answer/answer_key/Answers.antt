@@ -1,4 +1,4 @@
-use Rattle.std.proofs.Common.{ap, ◌∙◌}
+use Rattle.std.proofs.Common.{ap, ◌∙◌, rules}
 use Rattle.refusals.specs.Answer.{Answer}
 use Rattle.numbers.specs.Input.{value_of}
 use Rattle.texts.specs.Write.{write_answer, write_after}
@@ -14,8 +14,8 @@ returns-in-Ok c =
     ap (λ (a : Answer Asked). text_of (answered a)) c.in-Ok.ensures.answer
     ∙ ap (λ bytes. text_of (answered (value_of (key_in bytes)))) first in
     record {
-      answer = c.answer_question.ensures.answer ∙ ap (λ text. write_answer text c.args.text.now) same;
-      after = c.answer_question.ensures.after ∙ ap (λ text. write_after text c.args.text.now) same;
+      answer = rw (← same) (search rules);
+      after = rw (← same) (search rules);
     }
 
 pub returns-in-Err : goal.returns-in-Err
