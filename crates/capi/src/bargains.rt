@@ -23,10 +23,7 @@ fn input_about(refusal: CompareRefusal) -> u32
 fn value_told(carried: Option<usize>) -> u64
     ensures { result ≡ told_value carried }
 {
-    match carried {
-        Some(value) => value as u64,
-        None => u64::MAX,
-    }
+    carried.map_or(u64::MAX, |value| value as u64)
 }
 
 // Writes whether two inputs offer the same bargains; or the input that is refused and the value that the refusal carries.

@@ -20,16 +20,14 @@ pub extern "C" fn vulzhedor_quote(
     ensures time { minutes.new ≡ minutes_after (quote_answer speed rate work) minutes.old }
     ensures cost { cents.new ≡ cents_after (quote_answer speed rate work) cents.old }
 {
-    let hire = match read_hire(work, &[Terms { speed, rate }]) {
-        Ok(hire) => hire,
-        Err(refusal) => return u32::from(refusal.number()),
-    };
-    match hire.card.quote(0, work) {
-        Some(quote) => {
+    let hire = read_hire(work, &[Terms { speed, rate }]);
+    match hire.map(|hire| hire.card.quote(0, work)) {
+        Ok(Some(quote)) => {
             *minutes = quote.minutes;
             *cents = quote.cost.amount();
             DONE
         }
-        None => NO_QUOTE,
+        Ok(None) => NO_QUOTE,
+        Err(refusal) => u32::from(refusal.number()),
     }
 }

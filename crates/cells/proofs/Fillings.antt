@@ -1,7 +1,7 @@
 -- Rows filled from the last to the first
-use Rattle.std.proofs.Common.{◌≡◌, ℕ, zero, suc, ◌+◌, ◌-◌, ◌<◌, ◌≤◌, Bool, true, false, cond, ◌&&◌, leb, List, length, drop, Some, None, Ok, Err, Option, sym, refl, ap, ◌∙◌, subst, ap₂, inl, inr, arith}
+use Rattle.std.proofs.Common.{◌≡◌, ℕ, zero, suc, ◌+◌, ◌-◌, ◌<◌, ◌≤◌, Bool, true, false, cond, ◌&&◌, leb, List, length, drop, Some, None, Ok, Option, sym, refl, ap, ◌∙◌, subst, ap₂, inl, inr, arith}
 use Rattle.std.proofs.lemmas.Bool.{and_right, lt-leb, cases_eq}
-use Rattle.refusals.specs.Answer.{Refused, Answer, refused_if}
+use Rattle.refusals.specs.Answer.{Answer, refused_if}
 use Rattle.costs.specs.Kind.{Kind, Laws}
 use Rattle.tariffs.specs.Meaning.{Meaning, Ranged}
 use Rattle.sheets.specs.Book.{Book}
@@ -47,11 +47,6 @@ module _ {C : Type 0} (K : Kind C) (T : Meaning C) (tasks : List Task) where
       (sym (cheapest_of_past K (offer_before K T tasks rest t) n (m - n) (λ a k l. ap (λ (b : Bool). cond (b && is_time T tasks a) (joined K (cost_within K T tasks a) (rest (t - a))) None) (lt-leb a t (past a k (omega arith)))))
       ∙ ap (cheapest_of K (offer_before K T tasks rest t)) (let e : n + (m - n) ≡ m = omega arith in e))
 
-  -- a row cleared
-  pub row_none : {layout : Layout} {stage : ℕ} {before after : List (Cell C)} (rest : ℕ → Option C) (cost : C) → cost ≡ K.neutral
-      → RowWritten K layout stage (λ _. record { reached = false; cost = cost }) before after → RowWritten K layout stage (stage_row K T tasks rest 0) after after
-  row_none rest cost e w = record { here = λ t l. w.here t l ∙ ap (λ (c : C). record { reached = false; cost = c }) e; elsewhere = λ j t _ _ _. refl; past = refl }
-
   module _ {layout : Layout} {stage : ℕ} {before after : List (Cell C)} (rest : ℕ → Option C) (a : ℕ) (w : RowWritten K layout stage (stage_row K T tasks rest a) before after) where
     -- a time at which the stage offers nothing
     row_past : ((t : ℕ) → offer_before K T tasks rest t a ≡ None) → RowWritten K layout stage (stage_row K T tasks rest (a + 1)) before after
@@ -84,13 +79,8 @@ module _ {C : Type 0} (K : Kind C) (T : Meaning C) (tasks : List Task) where
             both true = refl
             both false = refl
 
--- what a check for enough cells told
-pub few_if_refused : {A : Type 0} (few : Bool) (r : Refused) (made : A) → ◌≡◌ {A = Answer A} (Err r) (refused_if few 7 (Ok made)) → few ≡ true
-few_if_refused true r made e = refl
-few_if_refused false r made e = let z : ◌≡◌ {A = ℕ} 0 1 = cc in absurd (omega arith)
-
 pub enough_if_made : {A : Type 0} (few : Bool) (a made : A) → ◌≡◌ {A = Answer A} (Ok a) (refused_if few 7 (Ok made)) → (few ≡ false) × (a ≡ made)
-enough_if_made true a made e = let z : ◌≡◌ {A = ℕ} 0 1 = cc in absurd (omega arith)
+enough_if_made true a made e = cc
 enough_if_made false a made e = (refl, cc)
 
 -- the rows of the stages from j on hold what they should, and memory past the cells is as it was
@@ -99,11 +89,11 @@ pub record FilledFrom {C : Type 0} (K : Kind C) (T : Meaning C) (book : Book) (l
   pub past : drop (size layout) after ≡ drop (size layout) before
 
 module _ {C : Type 0} {K : Kind C} (L : Laws K) (T : Meaning C) (F : Ranged T) (book : Book) where
-  last_row : {before after : List (Cell C)} (cost : C) → cost ≡ K.neutral
-      → RowWritten K (layout_of T book) book.stages (λ _. record { reached = true; cost = cost }) before after → FilledFrom K T book (layout_of T book) book.stages after after
-  last_row {before} {after} cost e w = record {
+  last_row : {before after : List (Cell C)} (cell : Cell C) → cell ≡ cell_of K (Some K.neutral)
+      → RowWritten K (layout_of T book) book.stages (λ _. cell) before after → FilledFrom K T book (layout_of T book) book.stages after after
+  last_row {before} {after} last e w = record {
     rows = λ j t l m n. let i : j ≡ book.stages = omega arith in
-        ap (λ (k : ℕ). cell_at K (layout_of T book) after k t) i ∙ w.here t n ∙ ap (λ (c : C). cell_of K (Some c)) e ∙ sym (last_cell L T F book t) ∙ ap (λ (k : ℕ). cell K T book k t) (sym i);
+        ap (λ (k : ℕ). cell_at K (layout_of T book) after k t) i ∙ w.here t n ∙ e ∙ sym (last_cell L T F book t) ∙ ap (λ (k : ℕ). cell K T book k t) (sym i);
     past = refl;
   }
 
@@ -132,8 +122,8 @@ module _ {C : Type 0} {K : Kind C} (L : Laws K) (T : Meaning C) (F : Ranged T) (
 
   -- the same at a layout that is equal
   module _ (layout : Layout) (e : layout ≡ layout_of T book) {before after : List (Cell C)} where
-    pub filled_last : (cost : C) → cost ≡ K.neutral → RowWritten K layout layout.stages (λ _. record { reached = true; cost = cost }) before after → FilledFrom K T book layout layout.stages after after
-    filled_last = subst (λ (l : Layout). (cost : C) → cost ≡ K.neutral → RowWritten K l l.stages (λ _. record { reached = true; cost = cost }) before after → FilledFrom K T book l l.stages after after) (sym e) last_row
+    pub filled_last : (cell : Cell C) → cell ≡ cell_of K (Some K.neutral) → RowWritten K layout layout.stages (λ _. cell) before after → FilledFrom K T book layout layout.stages after after
+    filled_last = subst (λ (l : Layout). (cell : Cell C) → cell ≡ cell_of K (Some K.neutral) → RowWritten K l l.stages (λ _. cell) before after → FilledFrom K T book l l.stages after after) (sym e) last_row
 
     pub filled_more : {between : List (Cell C)} (j : ℕ) → j < layout.stages → FilledFrom K T book layout (j + 1) before between
         → RowWritten K layout j (stage_row K T (stage_tasks book.tasks j) (row_costs K layout between (j + 1)) 1441) between after → FilledFrom K T book layout j before after

@@ -1,6 +1,5 @@
 pub mod Laws
 pub mod InWords
-pub mod StageCosts
 pub mod Places
 pub mod Rows
 pub mod Lowerings

@@ -1,16 +1,17 @@
 -- Times marked, machine by machine and task by task
-use Rattle.std.proofs.Common.{◌≡◌, ℕ, zero, suc, ◌+◌, ◌<◌, Bool, true, false, cond, ◌||◌, eqb, List, [], ◌∷◌, ◌++◌, length, get_or, take, set, Some, None, Option, sym, refl, ap, ◌∙◌, ap₂, inl, inr, zero-add, arith}
+use Rattle.std.proofs.Common.{◌≡◌, ℕ, zero, suc, ◌+◌, ◌<◌, Bool, true, false, cond, not, ◌&&◌, ◌||◌, eqb, List, [], ◌∷◌, ◌++◌, length, get_or, take, set, replicate, Some, None, Option, sym, refl, ap, ◌∙◌, ap₂, inl, inr, zero-add, arith}
 use mathlib.Core.Bool.{or_assoc, or-true, or-false}
-use Rattle.std.specs.List.{range_with_len}
-use Rattle.std.proofs.lemmas.List.{get_or-set_same, get_or-set_other, append-nil}
-use Rattle.std.proofs.lemmas.Bool.{cases_eq, eq-eqb, ne_eqb, true≢false, cond-true, cond-false, and_right}
+use Rattle.std.specs.List.{range_with_len, list_any}
+use Rattle.std.proofs.lemmas.List.{get_or-set_same, get_or-set_other, get_or-replicate, append-nil}
+use Rattle.std.proofs.lemmas.Bool.{cases_eq, eq-eqb, ne_eqb, and_right}
 use Rattle.tariffs.specs.Meaning.{Meaning}
 use Rattle.tariffs.specs.declared.quote.Quote.{Quote}
 use Rattle.sheets.specs.declared.task.Task.{Task}
 use Rattle.model.specs.Lists.{any, is_empty}
-use Rattle.model.specs.Assignment.{stands_in, stage_tasks, quote_of}
-use Rattle.model.specs.Allowance.{takes, is_time}
-use Rattle.model.proofs.Loops.{stage_tasks_more, any_append, is_empty_append}
+use Rattle.sheets.specs.Tasks.{stands_in}
+use Rattle.model.specs.Assignment.{stage_tasks, quote_of}
+use Rattle.model.specs.Allowance.{takes}
+use Rattle.model.proofs.Loops.{stage_tasks_more, any_append}
 
 any_counted : (test : ℕ → Bool) (a n : ℕ) → any test (range_with_len a (suc n)) ≡ (any test (range_with_len a n) || test (a + n))
 any_counted test a zero = or-false (test a) ∙ ap test (let e : a ≡ a + 0 = omega arith in e)
@@ -20,9 +21,6 @@ any_counted test a (suc n) =
 
 any_below : (test : ℕ → Bool) (n : ℕ) → any test (range_with_len 0 (n + 1)) ≡ (any test (range_with_len 0 n) || test n)
 any_below test n = ap (λ (m : ℕ). any test (range_with_len 0 m)) (let e : n + 1 ≡ suc n = omega arith in e) ∙ any_counted test 0 n ∙ ap (λ (m : ℕ). any test (range_with_len 0 n) || test m) (zero-add n)
-
-eqb_sym : (i m : ℕ) → eqb i m ≡ eqb m i
-eqb_sym i m = elim (cases_eq i m) [ inl e ↦ eq-eqb i m e ∙ sym (eq-eqb m i (sym e)) | inr n ↦ ne_eqb i m n ∙ sym (ne_eqb m i (λ e. n (sym e))) ]
 
 -- a place marked
 pub set_mark : (marks : List Bool) (i m : ℕ) → i < length marks → get_or (set marks i true) m false ≡ (get_or marks m false || eqb i m)
@@ -60,21 +58,25 @@ module _ {C : Type 0} (T : Meaning C) where
         ∙ any_append _ (stage_tasks (take i tasks) stage) (get_or tasks i d ∷ [])
         ∙ ap (λ (b : Bool). quoted_at (stage_tasks (take i tasks) stage) m || b) (or-false (any (takes T (get_or tasks i d) m) (range_with_len 0 T.count)))
 
-  quoted_none : (tasks : List Task) (m : ℕ) → is_empty tasks ≡ true → quoted_at tasks m ≡ false
-  quoted_none [] m e = refl
-  quoted_none (task ∷ tasks) m e = absurd (true≢false (sym e))
+-- the first place marked or not, and no other
+pub first_mark : (mark : Bool) (n m : ℕ) → m < n → get_or (set (replicate n false) 0 mark) m false ≡ ((mark && eqb m 0) || false)
+first_mark mark zero m l = elim l [ ]
+first_mark true (suc n) zero l = refl
+first_mark false (suc n) zero l = refl
+first_mark mark (suc n) (suc m) l =
+    get_or-replicate n m false false (omega arith)
+    ∙ sym (ap (λ (b : Bool). (mark && b) || false) (ne_eqb (suc m) 0 (λ e. absurd (omega arith))) ∙ ap (λ (b : Bool). b || false) (and_right mark false refl))
 
-  module _ (tasks : List Task) (m : ℕ) where
-    pub is_time_some : is_empty tasks ≡ false → quoted_at tasks m ≡ is_time T tasks m
-    is_time_some e = sym (cond-false (is_empty tasks) (eqb m 0) (quoted_at tasks m) e)
-
-    pub is_time_none : is_empty tasks ≡ true → (quoted_at tasks m || eqb 0 m) ≡ is_time T tasks m
-    is_time_none e = ap (λ (b : Bool). b || eqb 0 m) (quoted_none tasks m e) ∙ eqb_sym 0 m ∙ sym (cond-true (is_empty tasks) (eqb m 0) (quoted_at tasks m) e)
+-- no task stands in the stage
+pub none_stands : (tasks : List Task) (stage : ℕ) → not (list_any (stands_in stage) tasks) ≡ is_empty (stage_tasks tasks stage)
+none_stands [] stage = refl
+none_stands (task ∷ tasks) stage = go (stands_in stage task) (none_stands tasks stage)
+  where
+    go : (b : Bool) → not (list_any (stands_in stage) tasks) ≡ is_empty (stage_tasks tasks stage) → not (b || list_any (stands_in stage) tasks) ≡ is_empty (cond b (task ∷ stage_tasks tasks stage) (stage_tasks tasks stage))
+    go true rest = refl
+    go false rest = rest
 
 module _ (tasks : List Task) (stage i : ℕ) (d : Task) (l : i < length tasks) where
   -- a task that does not stand in the stage adds nothing
   pub stage_tasks_past : stands_in stage (get_or tasks i d) ≡ false → stage_tasks (take (i + 1) tasks) stage ≡ stage_tasks (take i tasks) stage
   stage_tasks_past e = stage_tasks_more tasks stage i d l ∙ ap (λ (b : Bool). stage_tasks (take i tasks) stage ++ cond b (get_or tasks i d ∷ []) []) e ∙ append-nil (stage_tasks (take i tasks) stage)
-
-  pub not_empty_more : stands_in stage (get_or tasks i d) ≡ true → is_empty (stage_tasks (take (i + 1) tasks) stage) ≡ false
-  not_empty_more e = ap (λ (ts : List Task). is_empty ts) (stage_tasks_more tasks stage i d l ∙ ap (λ (b : Bool). stage_tasks (take i tasks) stage ++ cond b (get_or tasks i d ∷ []) []) e) ∙ is_empty_append (stage_tasks (take i tasks) stage) (get_or tasks i d ∷ []) ∙ and_right (is_empty (stage_tasks (take i tasks) stage)) false refl

@@ -1,11 +1,11 @@
 -- Rows written cell by cell, and one after another
-use Rattle.std.proofs.Common.{◌≡◌, ℕ, ◌+◌, ◌<◌, ◌≤◌, true, false, cond, not, ltb, List, length, get_or, set, Some, None, Option, sym, refl, ap, ◌∙◌, inl, inr, le_trans, arith}
-use Rattle.std.proofs.lemmas.List.{get_or_default, get_or_past, get_or-set_same, get_or-set_other, drop-set-lt}
+use Rattle.std.proofs.Common.{◌≡◌, ℕ, ◌+◌, ◌<◌, ◌≤◌, true, false, cond, not, ltb, List, length, set, Some, None, Option, sym, refl, ap, ◌∙◌, inl, inr, le_trans, arith}
+use Rattle.std.proofs.lemmas.List.{get_or-set_same, get_or-set_other, drop-set-lt}
 use Rattle.std.proofs.lemmas.Bool.{cases_eq, cases_lt, lt-ltb, le-ltb, cond-true, cond-false}
 use Rattle.costs.specs.Kind.{Kind}
 use Rattle.model.specs.declared.cell.Cell.{Cell}
 use Rattle.model.specs.Allowance.{cheaper}
-use Rattle.model.specs.Cell.{cell_of, cost_in}
+use Rattle.model.specs.Cell.{cell_of}
 use Rattle.cells.specs.declared.layout.Layout.{Layout}
 use Rattle.cells.specs.Layout.{place_in, size}
 use Rattle.cells.specs.Memory.{cell_at, RowWritten, lowered}
@@ -18,19 +18,7 @@ lowered_cheaper K (Some c) None = refl
 lowered_cheaper K None (Some d) = refl
 lowered_cheaper K (Some c) (Some d) = elim (K.at_most c d) as (λ b. cond (not b) (cell_of K (Some d)) (cell_of K (Some c)) ≡ cell_of K (cond b (Some c) (Some d))) [ true ↦ refl | false ↦ refl ]
 
--- a place past the memory, and a cell that was not reached, have no cost
-module _ {C : Type 0} (K : Kind C) (cells : List (Cell C)) (i j : ℕ) (same : i ≡ j) where
-  pub cost_past : length cells ≤ i → None ≡ cost_in (get_or cells j (cell_of K None))
-  cost_past l = sym (ap (λ (cell : Cell C). cost_in cell) (ap (λ (n : ℕ). get_or cells n (cell_of K None)) (sym same) ∙ get_or_past cells i (cell_of K None) l))
-
-  pub cost_unreached : (d : Cell C) → i < length cells → (get_or cells i d).reached ≡ false → None ≡ cost_in (get_or cells j (cell_of K None))
-  cost_unreached d l e = sym (cond-false _ _ None (ap (λ (cell : Cell C). cell.reached) (ap (λ (n : ℕ). get_or cells n (cell_of K None)) (sym same) ∙ get_or_default cells i (cell_of K None) d l) ∙ e))
-
 module _ {C : Type 0} {K : Kind C} {layout : Layout} {stage : ℕ} where
-  -- nothing is written yet
-  pub unwritten : (cells : List (Cell C)) → RowWritten K layout stage (cell_at K layout cells stage) cells cells
-  unwritten cells = record { here = λ t _. refl; elsewhere = λ j t _ _ _. refl; past = refl }
-
   -- the same row, said in another way
   pub written_as : {row other : ℕ → Cell C} {before after : List (Cell C)} → RowWritten K layout stage row before after → ((t : ℕ) → t < layout.width → row t ≡ other t) → RowWritten K layout stage other before after
   written_as w same = record { here = λ t l. w.here t l ∙ same t l; elsewhere = w.elsewhere; past = w.past }
@@ -80,12 +68,6 @@ module _ {A : Type 0} (new old : ℕ → A) where
   ]
 
 module _ {C : Type 0} {K : Kind C} {layout : Layout} {stage : ℕ} {before : List (Cell C)} (new : ℕ → Cell C) where
-  pub written_none : (m : ℕ) → ((t : ℕ) → t < m → new t ≡ cell_at K layout before stage t) → RowWritten K layout stage (up_to m new (cell_at K layout before stage)) before before
-  written_none m same = written_as (unwritten before) (λ t _. elim (cases_lt t m) [
-    | inl l ↦ sym (same t l) ∙ sym (up_to_before new (cell_at K layout before stage) m t l)
-    | inr l ↦ sym (up_to_from new (cell_at K layout before stage) m t l)
-  ])
-
   module _ {after : List (Cell C)} (m : ℕ) (w : RowWritten K layout stage (up_to m new (cell_at K layout before stage)) before after) where
     -- what is not written yet is as it was
     pub still : m < layout.width → cell_at K layout after stage m ≡ cell_at K layout before stage m
@@ -101,6 +83,3 @@ module _ {C : Type 0} {K : Kind C} {layout : Layout} {stage : ℕ} {before : Lis
           ∙ sym (up_to_before new (cell_at K layout before stage) (m + 1) m (omega arith)) ∙ ap (up_to (m + 1) new (cell_at K layout before stage)) (sym k)
       | inr n ↦ sym (up_to_other new (cell_at K layout before stage) m t n)
     ])
-
-    pub written_all : layout.width ≤ m → RowWritten K layout stage new before after
-    written_all all = written_as w (λ t l. up_to_before new (cell_at K layout before stage) m t (omega arith))

@@ -16,25 +16,12 @@ fn choice_within<C: Cost>(
 ) -> Option<Choice<C>>
     ensures { result ≡ choice_within allowance machine quote }
 {
-    match quote {
-        Some(quote) => {
-            if quote.minutes <= allowance {
-                Some(Choice {
-                    machine,
-                    cost: quote.cost,
-                })
-            } else {
-                None
-            }
-        }
-        None => None,
-    }
-}
-
-fn no_dearer<C: Cost>(first: &Choice<C>, second: &Choice<C>) -> bool
-    ensures { result ≡ C.Cost.kind.at_most first.now.cost second.now.cost }
-{
-    first.cost.at_most(second.cost)
+    quote
+        .filter(|quote| quote.minutes <= allowance)
+        .map(|quote| Choice {
+            machine,
+            cost: quote.cost,
+        })
 }
 
 // The cheaper of two choices, the first among equals.
@@ -42,9 +29,8 @@ fn cheaper_choice<C: Cost>(first: Option<Choice<C>>, second: Option<Choice<C>>) 
     ensures { result ≡ cheaper_choice C.Cost.kind first second }
 {
     match (first, second) {
-        (Some(x), Some(y)) => { if no_dearer(&x, &y) { Some(x) } else { Some(y) } }
-        (Some(x), None) => Some(x),
-        (None, other) => other,
+        (Some(x), Some(y)) => Some(if x.cost.at_most(y.cost) { x } else { y }),
+        (first, second) => first.or(second),
     }
 }
 

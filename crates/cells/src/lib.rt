@@ -14,7 +14,7 @@ mod times;
 pub use choices::cheapest;
 pub use filling::{check_cells, fill};
 pub use layout::Layout;
-pub use memory::cost_at;
+pub use memory::CellRows;
 pub use quotes::quote_of;
 pub use refusal::TooFewCells;
 pub use spans::span;

@@ -8,15 +8,19 @@ use crate::Layout;
 use costs::Cost;
 use model::Cell;
 
-// The cost in a cell, none if it was not reached or is past the memory.
-pub fn cost_at<C: Cost>(cells: &[Cell<C>], layout: Layout, stage: u32, minutes: u32) -> Option<C>
-    ensures { result ≡ cost_in (cell_at C.Cost.kind layout cells.now stage minutes) }
-{
-    let place = layout.place(stage, minutes);
-    if place < cells.len() && cells[place].reached {
-        Some(cells[place].cost)
-    } else {
-        None
+// Rows of cells that are read.
+#[derive_where(Clone, Copy)]
+pub struct CellRows<'a, C> {
+    pub cells: &'a [Cell<C>],
+    pub layout: Layout,
+}
+
+impl<'a, C: Cost> CellRows<'a, C> {
+    // The cost in a cell, none if it was not reached or is past the memory.
+    pub fn cost_at(&self, stage: u32, minutes: u32) -> Option<C>
+        ensures { result ≡ cost_in (cell_at C.Cost.kind self.now.layout self.now.cells.now stage minutes) }
+    {
+        self.cells.get(self.layout.place(stage, minutes))?.least()
     }
 }
 
@@ -35,7 +39,7 @@ pub(crate) fn write_row<C: Cost>(cells: &mut [Cell<C>], layout: Layout, stage: u
 fn is_lowered<C: Cost>(cell: &Cell<C>, offer: C) -> bool
     ensures { result ≡ is_lowered C.Cost.kind cell.now offer }
 {
-    !cell.reached || !cell.cost.at_most(offer)
+    cell.least().is_none_or(|least| !least.at_most(offer))
 }
 
 // Lowers the cell at a place to an offer, where that is less.
@@ -44,10 +48,7 @@ fn lower<C: Cost>(cells: &mut [Cell<C>], place: usize, offer: C)
     ensures { cells.new ≡ slice_set cells.old place (lowered C.Cost.kind (slice_index_or cells.old place (cell_of C.Cost.kind None)) (Some offer)) }
 {
     if is_lowered(&cells[place], offer) {
-        cells[place] = Cell {
-            reached: true,
-            cost: offer,
-        };
+        cells[place] = Cell::of(Some(offer));
     }
 }
 
@@ -66,9 +67,8 @@ pub(crate) fn lower_row<C: Cost>(
 {
     for minutes in allowance..layout.width {
         let behind = layout.place(stage + 1, minutes - allowance);
-        if cells[behind].reached {
-            let offer = cost.join(cells[behind].cost);
-            lower(cells, layout.place(stage, minutes), offer);
+        if let Some(rest) = cells[behind].least() {
+            lower(cells, layout.place(stage, minutes), cost.join(rest));
         }
     }
 }

@@ -6,19 +6,16 @@ ghost use Rattle.model.specs.Allowance.{greatest_time_below, greatest_time};
 ghost use Rattle.model.specs.Cell.{span};
 
 use crate::quote_of;
-use crate::stages::stands_in;
 use costs::Cost;
-use sheets::{Sheet, Task};
+use model::PricedSheet;
+use sheets::Task;
 use tariffs::{Quote, Tariff};
 
 // The minutes of a quote, 0 without one.
 fn minutes_of<C: Cost>(quote: Option<Quote<C>>) -> u32
     ensures { result ≡ minutes_of quote }
 {
-    match quote {
-        Some(quote) => quote.minutes,
-        None => 0,
-    }
+    quote.map_or(0, |quote| quote.minutes)
 }
 
 // The greatest time quoted to a task, 0 without any.
@@ -33,26 +30,26 @@ fn greatest_quote<T: Tariff>(tariff: &T, task: &Task) -> u32
 }
 
 // The greatest time quoted to a standing task of a stage, 0 without any.
-fn greatest_time<T: Tariff>(sheet: &Sheet, tariff: &T, stage: usize) -> u32
-    ensures { result ≡ greatest_time (T.Tariff.meaning tariff.now) (stage_tasks (book sheet.now).tasks stage) }
+fn greatest_time<T: Tariff>(priced: &PricedSheet<T>, stage: usize) -> u32
+    ensures { result ≡ greatest_time (T.Tariff.meaning priced.now.tariff.now) (stage_tasks (book priced.now.sheet.now).tasks stage) }
 {
     let mut greatest: u32 = 0;
-    for task in sheet.tasks() {
-        if stands_in(stage, task) {
-            greatest = greatest.max(greatest_quote(tariff, task));
+    for task in priced.sheet.tasks() {
+        if task.stands_in(stage) {
+            greatest = greatest.max(greatest_quote(priced.tariff, task));
         }
     }
     greatest
 }
 
 // The sum over stages of the greatest time quoted to a standing task there. No assignment is longer.
-pub fn span<T: Tariff>(sheet: &Sheet, tariff: &T) -> u32
-    ensures value { result ≡ span (T.Tariff.meaning tariff.now) (standing (book sheet.now)) }
+pub fn span<T: Tariff>(priced: &PricedSheet<T>) -> u32
+    ensures value { result ≡ span (T.Tariff.meaning priced.now.tariff.now) (standing (book priced.now.sheet.now)) }
     ensures few { result ≤ 23040 }
 {
     let mut span = 0;
-    for stage in 0..sheet.stage_count() {
-        span += greatest_time(sheet, tariff, stage);
+    for stage in 0..priced.sheet.stage_count() {
+        span += greatest_time(priced, stage);
     }
     span
 }

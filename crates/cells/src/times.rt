@@ -7,13 +7,13 @@ ghost use Rattle.model.specs.Assignment.{stage_tasks};
 ghost use Rattle.model.specs.Allowance.{takes, is_time};
 
 use crate::quote_of;
-use crate::stages::stands_in;
 use costs::Cost;
-use sheets::{Sheet, Task};
-use tariffs::{Quote, Tariff};
+use model::PricedSheet;
+use sheets::Task;
+use tariffs::{MAX_MINUTES, Tariff};
 
-// A quote takes at most 1,440 minutes.
-pub const TIMES: usize = 1441;
+// How many different times there are, from 0 minutes to the longest that a quote takes.
+pub const TIMES: usize = MAX_MINUTES as usize + 1;
 
 // Marks each time that a machine quotes for the task.
 fn mark<T: Tariff>(tariff: &T, task: &Task, times: &mut [bool; TIMES])
@@ -27,19 +27,16 @@ fn mark<T: Tariff>(tariff: &T, task: &Task, times: &mut [bool; TIMES])
 }
 
 // The times that machines quote for the standing tasks of a stage, by minutes; for a stage without standing tasks, 0.
-pub fn quoted_times<T: Tariff>(sheet: &Sheet, tariff: &T, stage: usize) -> [bool; TIMES]
-    ensures { (m : ℕ) → m < 1441 → slice_index_or result m false ≡ is_time (T.Tariff.meaning tariff.now) (stage_tasks (book sheet.now).tasks stage) m }
+pub fn quoted_times<T: Tariff>(priced: &PricedSheet<T>, stage: usize) -> [bool; TIMES]
+    ensures { (m : ℕ) → m < 1441 → slice_index_or result m false ≡ is_time (T.Tariff.meaning priced.now.tariff.now) (stage_tasks (book priced.now.sheet.now).tasks stage) m }
 {
+    let tasks = priced.sheet.tasks();
     let mut times = [false; TIMES];
-    let mut empty = true;
-    for task in sheet.tasks() {
-        if stands_in(stage, task) {
-            mark(tariff, task, &mut times);
-            empty = false;
+    times[0] = !tasks.iter().any(|task| task.stands_in(stage));
+    for task in tasks {
+        if task.stands_in(stage) {
+            mark(priced.tariff, task, &mut times);
         }
-    }
-    if empty {
-        times[0] = true;
     }
     times
 }

@@ -1,8 +1,6 @@
 // Cost kinds whose costs can be written.
 ghost use Rattle.std.specs.Prelude.{◌≡◌, ℕ, List, length};
-ghost use Rattle.refusals.specs.Answer.{answer_of};
-ghost use Rattle.texts.specs.TooShort.{too_short_told};
-ghost use Rattle.texts.specs.Write.{write_answer, write_after};
+ghost use Rattle.texts.specs.Write.{Writes};
 
 use crate::Cost;
 use texts::TooShort;
@@ -17,8 +15,7 @@ pub trait WrittenCost: Cost {
 
     // Writes the text at the start of the memory, and returns how many bytes that took.
     fn write(self, memory: &mut [u8]) -> Result<usize, TooShort>
-        ensures answer { answer_of too_short_told result ≡ write_answer (text self) memory.old }
-        ensures after { memory.new ≡ write_after (text self) memory.old };
+        ensures { Writes (text self) memory.old memory.new result };
 
     // Two texts are equal exactly when the costs are.
     ghost distinct: { (a b : Self) → (text a ≡ text b → a ≡ b) × (a ≡ b → text a ≡ text b) };

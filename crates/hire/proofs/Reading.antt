@@ -1,27 +1,29 @@
 -- A card read line by line
-use Rattle.std.proofs.Common.{◌≡◌, ℕ, ◌+◌, ◌<◌, ◌≤◌, true, false, not, ltb, List, [], ◌∷◌, ◌++◌, map, length, get_or, take, Ok, Err, sym, refl, ap, ◌∙◌, arith}
+use Rattle.std.proofs.Common.{◌≡◌, ℕ, ◌+◌, ◌<◌, ◌≤◌, true, false, not, ltb, List, [], ◌∷◌, ◌++◌, map, length, get_or, take, Ok, Err, sym, ap, ◌∙◌, arith}
 use Rattle.std.proofs.lemmas.List.{length-take, length-take-le, length-map, get_or-take, take_all, take_more, map-append}
 use Rattle.std.proofs.lemmas.Bool.{cond-true, cond-false, lt-ltb, le-ltb}
-use Rattle.refusals.specs.Answer.{Answer, Refused, carrying}
+use Rattle.std.specs.Prelude.{Result}
+use Rattle.std.specs.Result.{MatchResult}
+use Rattle.refusals.specs.Answer.{Answer, Refused, answer_of, carrying}
+use Rattle.tariffs.specs.declared.refusal.CardRefusal.{CardRefusal}
+use Rattle.tariffs.specs.Refusal.{card_told}
+use Rattle.hire.specs.declared.refusal.HireRefusal.{HireRefusal}
+use Rattle.hire.specs.Refusal.{hire_told}
 use Rattle.tariffs.specs.declared.line.Line.{Line}
 use Rattle.tariffs.specs.Card.{add_answer}
 use Rattle.tariffs.specs.Line.{line_in_range}
 use Rattle.tariffs.proofs.Cards.{full, outside, obeyed, added, refusal_number}
-use Rattle.tariffs.proofs.Firsts.{Sought, sought_none, sought_more, sought_here, sought_all}
+use Rattle.tariffs.proofs.Firsts.{Sought, sought_more, sought_here, sought_all}
 use Rattle.hire.specs.declared.terms.Terms.{Terms}
 use Rattle.hire.specs.Hire.{terms_line, out_of_range, speed_argument, card_verdict, card_answer}
 
 -- the first machines' terms are read, none of them refused
-pub record Reading (terms : List Terms) (lines : List Line) (argument i : ℕ) : Type 0 where
+pub record Reading (terms : List Terms) (lines : List Line) (i : ℕ) : Type 0 where
   pub so_far : lines ≡ map terms_line (take i terms)
-  pub next : argument ≡ speed_argument i
   pub few : i ≤ 32
   pub fine : Sought out_of_range (take 32 terms) i
 
-pub reading_none : (terms : List Terms) → Reading terms [] 2 0
-reading_none terms = record { so_far = refl; next = refl; few = omega arith; fine = sought_none out_of_range (take 32 terms) }
-
-module _ (terms : List Terms) (lines : List Line) (argument i : ℕ) (d : Terms) (reading : Reading terms lines argument i) where
+module _ (terms : List Terms) (lines : List Line) (i : ℕ) (d : Terms) (reading : Reading terms lines i) where
   module _ (h : i < length terms) where
     length_so_far : length lines ≡ i
     length_so_far = ap length reading.so_far ∙ length-map (take i terms) terms_line ∙ length-take-le i terms (omega arith)
@@ -32,36 +34,39 @@ module _ (terms : List Terms) (lines : List Line) (argument i : ℕ) (d : Terms)
     here : i < 32 → get_or (take 32 terms) i d ≡ get_or terms i d
     here few = get_or-take 32 terms i d few
 
-    reading_full : 32 ≤ length lines → ◌≡◌ {A = Answer (List Line)} (Err (carrying 4 argument)) (card_answer terms)
+    reading_full : 32 ≤ length lines → ◌≡◌ {A = Answer (List Line)} (Err (carrying 4 (speed_argument i))) (card_answer terms)
     reading_full past =
         let last : i ≡ 32 = let l = length_so_far in let f = reading.few in omega arith in
         let cut : length (take 32 terms) ≤ i = simp length-take (omega arith) in
         let none = sought_all out_of_range (take 32 terms) i cut reading.fine in
         let many : 32 < length terms = omega arith in
-        ap (λ n. Err (carrying 4 n)) (reading.next ∙ ap speed_argument last)
+        ap (λ n. Err (carrying 4 (speed_argument n))) last
         ∙ sym (ap (card_verdict terms) none ∙ cond-true (ltb 32 (length terms)) _ _ (lt-ltb 32 (length terms) many))
 
-    reading_outside : length lines < 32 → line_in_range (get_or terms i d).speed (get_or terms i d).rate ≡ false → ◌≡◌ {A = Answer (List Line)} (Err (carrying 5 argument)) (card_answer terms)
+    reading_outside : length lines < 32 → line_in_range (get_or terms i d).speed (get_or terms i d).rate ≡ false → ◌≡◌ {A = Answer (List Line)} (Err (carrying 5 (speed_argument i))) (card_answer terms)
     reading_outside room bad =
         let few : i < 32 = let l = length_so_far in omega arith in
         let found = sought_here out_of_range (take 32 terms) i d (within few) (ap out_of_range (here few) ∙ ap not bad) reading.fine in
-        ap (λ n. Err (carrying 5 n)) reading.next ∙ sym (ap (card_verdict terms) found)
+        sym (ap (card_verdict terms) found)
 
     -- a refused line's number, with the argument, is the answer
-    pub reading_refused : (refused : Refused) → Err refused ≡ add_answer lines (get_or terms i d).speed (get_or terms i d).rate → ◌≡◌ {A = Answer (List Line)} (Err (carrying refused.number argument)) (card_answer terms)
+    reading_refused : (refused : Refused) → Err refused ≡ add_answer lines (get_or terms i d).speed (get_or terms i d).rate → ◌≡◌ {A = Answer (List Line)} (Err (carrying refused.number (speed_argument i))) (card_answer terms)
     reading_refused refused e =
         elim (added lines (get_or terms i d).speed (get_or terms i d).rate) [
-          | full past f ↦ ap (λ n. Err (carrying n argument)) (ap refusal_number (e ∙ f)) ∙ reading_full past
-          | outside room bad f ↦ ap (λ n. Err (carrying n argument)) (ap refusal_number (e ∙ f)) ∙ reading_outside room bad
+          | full past f ↦ ap (λ n. Err (carrying n (speed_argument i))) (ap refusal_number (e ∙ f)) ∙ reading_full past
+          | outside room bad f ↦ ap (λ n. Err (carrying n (speed_argument i))) (ap refusal_number (e ∙ f)) ∙ reading_outside room bad
           | obeyed room fine f ↦ let z : ◌≡◌ {A = ℕ} 0 1 = cc (e ∙ f) in absurd (omega arith)
         ]
 
-    pub reading_more : length lines < 32 → line_in_range (get_or terms i d).speed (get_or terms i d).rate ≡ true → Reading terms (lines ++ (terms_line (get_or terms i d) ∷ [])) (argument + 2) (i + 1)
+    pub reading_told : (added : Result ℕ CardRefusal) (told : HireRefusal) → answer_of card_told added ≡ add_answer lines (get_or terms i d).speed (get_or terms i d).rate → MatchResult added (λ machine. ⊥) (λ refusal. hire_told told ≡ carrying (card_told refusal).number (speed_argument i)) → Err (hire_told told) ≡ card_answer terms
+    reading_told (Ok machine) told e h = absurd h
+    reading_told (Err refusal) told e h = ap (λ (r : Refused). Err r) h ∙ reading_refused (card_told refusal) e
+
+    pub reading_more : length lines < 32 → line_in_range (get_or terms i d).speed (get_or terms i d).rate ≡ true → Reading terms (lines ++ (terms_line (get_or terms i d) ∷ [])) (i + 1)
     reading_more room good =
         let few : i < 32 = let l = length_so_far in omega arith in
         record {
           so_far = ap (λ ls. ls ++ (terms_line (get_or terms i d) ∷ [])) reading.so_far ∙ sym (ap (map terms_line) (take_more terms i d h) ∙ map-append terms_line (take i terms) _);
-          next = let e = reading.next in omega arith;
           few = omega arith;
           fine = sought_more out_of_range (take 32 terms) i d (within few) (ap out_of_range (here few) ∙ ap not good) reading.fine;
         }

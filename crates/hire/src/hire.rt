@@ -9,7 +9,7 @@ use crate::{HireRefusal, Terms};
 use tariffs::{CardRefusal, RateCard};
 use work::work_in_range;
 
-#[derive(Clone, Copy)]
+#[derive(Clone, Copy, PartialEq, Eq, Debug)]
 pub struct Hire {
     pub work: u32,
     pub card: RateCard,
@@ -30,12 +30,9 @@ fn read_card(terms: &[Terms]) -> Result<RateCard, HireRefusal>
     ensures { card_heard result ≡ card_answer terms.now }
 {
     let mut card = RateCard::new();
-    let mut argument = 2;
-    for offer in terms {
-        match card.add(offer.speed, offer.rate) {
-            Ok(_) => argument += 2,
-            Err(refusal) => return Err(at_argument(refusal, argument)),
-        }
+    for (machine, offer) in terms.iter().enumerate() {
+        card.add(offer.speed, offer.rate)
+            .map_err(|refusal| at_argument(refusal, 2 + 2 * machine))?;
     }
     Ok(card)
 }

@@ -1,9 +1,6 @@
 // The line that tells of a quote.
-ghost use Rattle.std.specs.Prelude.{◌≡◌};
-ghost use Rattle.refusals.specs.Answer.{answer_of};
 ghost use Rattle.texts.specs.Line.{line};
-ghost use Rattle.texts.specs.TooShort.{too_short_told};
-ghost use Rattle.texts.specs.Write.{write_answer, write_after};
+ghost use Rattle.texts.specs.Write.{Writes};
 ghost use Rattle.hire.specs.QuoteLine.{quote_words};
 
 use costs::Cents;
@@ -18,8 +15,7 @@ pub fn write_quote<T: Tariff<Cost = Cents>>(
     work: u32,
     memory: &mut [u8],
 ) -> Result<usize, TooShort>
-    ensures answer { answer_of too_short_told result ≡ write_answer (line (quote_words machine ((T.Tariff.meaning tariff.now).quote machine work))) memory.old }
-    ensures after { memory.new ≡ write_after (line (quote_words machine ((T.Tariff.meaning tariff.now).quote machine work))) memory.old }
+    ensures { Writes (line (quote_words machine ((T.Tariff.meaning tariff.now).quote machine work))) memory.old memory.new result }
 {
     let number = Word::Number(machine as u64);
     match tariff.quote(machine, work) {

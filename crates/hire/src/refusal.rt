@@ -28,8 +28,7 @@ impl Refusal for HireRefusal {
     fn carried(&self) -> Option<usize> {
         match self {
             HireRefusal::Work => Some(1),
-            HireRefusal::FullCard(argument) => Some(*argument),
-            HireRefusal::OutOfRange(argument) => Some(*argument),
+            HireRefusal::FullCard(argument) | HireRefusal::OutOfRange(argument) => Some(*argument),
         }
     }
 }

@@ -1,5 +1,5 @@
 -- What is written of the answers of questions is the text of the key
-use Rattle.std.proofs.Common.{◌≡◌, ℕ, ◌-◌, ◌≤◌, min, Bool, true, false, ltb, List, ◌++◌, length, take, drop, Ok, Err, sym, refl, ap, ◌∙◌, ⊎_elim, arith}
+use Rattle.std.proofs.Common.{◌≡◌, ℕ, ◌≤◌, min, Bool, true, false, ltb, List, ◌++◌, length, take, drop, Ok, Err, sym, refl, ap, ◌∙◌, ⊎_elim, arith}
 use Rattle.std.specs.List.{flat_map}
 use Rattle.std.proofs.lemmas.List.{take_at, take_all, length-map, length-take}
 use Rattle.std.proofs.lemmas.Bool.{le-ltb, cases_lt}
@@ -69,9 +69,9 @@ pub few_tasks : (sheet : Sheet) → length (book sheet).tasks ≤ 256
 few_tasks sheet = let l = length-take sheet.count sheet.tasks in omega (arith, sheet.fits)
 
 -- as many bytes as there are, at most so many, are the first so many
-pub first_bytes : (bytes : List ℕ) (count limit : ℕ) → count ≡ min (length bytes) limit → take (count - 0) bytes ≡ take limit bytes
+pub first_bytes : (bytes : List ℕ) (count limit : ℕ) → count ≡ min (length bytes) limit → take count bytes ≡ take limit bytes
 first_bytes bytes count limit e =
     ⊎_elim
-    (λ longer. ap (λ n. take n bytes) (let same : count - 0 ≡ limit = omega arith in same))
-    (λ whole. take_all (count - 0) bytes (omega arith) ∙ sym (take_all limit bytes whole))
+    (λ longer. ap (λ n. take n bytes) (let same : count ≡ limit = omega arith in same))
+    (λ whole. take_all count bytes (omega arith) ∙ sym (take_all limit bytes whole))
     (cases_lt limit (length bytes))

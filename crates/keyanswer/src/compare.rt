@@ -9,22 +9,22 @@ ghost use Rattle.keyinput.specs.Batch.{batch_of};
 ghost use Rattle.keyanswer.specs.Compare.{offers_answer, compare_answer, heard, Judged};
 
 use crate::CompareRefusal;
-use crate::memory::{CELLS, POINTS, unreached, unwritten};
+use crate::memory::{CELLS, POINTS, unwritten};
+use crate::priced::priced;
 use keyinput::{Batch, read_batch};
+use model::Cell;
 use planner::{QuestionRefusal, same_bargains};
 
 fn compare(first: &Batch, second: &Batch) -> Result<bool, QuestionRefusal>
     ensures answer { answer_of question_told result ≡ offers_answer (batch_of first.now) (batch_of second.now) }
     ensures verdict { VerdictHolds cents_kind (lines_meaning (lines_of first.now.card)) first.now.sheet (lines_meaning (lines_of second.now.card)) second.now.sheet result }
 {
-    let mut cells = [unreached(); CELLS];
+    let mut cells = [Cell::of(None); CELLS];
     let mut first_points = [unwritten(); POINTS];
     let mut second_points = [unwritten(); POINTS];
     same_bargains(
-        &first.sheet,
-        &first.card,
-        &second.sheet,
-        &second.card,
+        &priced(first),
+        &priced(second),
         &mut cells,
         &mut first_points,
         &mut second_points,
@@ -36,16 +36,7 @@ pub fn compare_batches(first: &[u8], second: &[u8]) -> Result<bool, CompareRefus
     ensures answer { heard result ≡ compare_answer first.now second.now }
     ensures judged { Judged first.now second.now result }
 {
-    let mine = match read_batch(first) {
-        Ok(batch) => batch,
-        Err(refusal) => return Err(CompareRefusal::First(refusal)),
-    };
-    let yours = match read_batch(second) {
-        Ok(batch) => batch,
-        Err(refusal) => return Err(CompareRefusal::Second(refusal)),
-    };
-    match compare(&mine, &yours) {
-        Ok(equal) => Ok(equal),
-        Err(refusal) => Err(CompareRefusal::Memory(refusal)),
-    }
+    let mine = read_batch(first).map_err(CompareRefusal::First)?;
+    let yours = read_batch(second).map_err(CompareRefusal::Second)?;
+    compare(&mine, &yours).map_err(CompareRefusal::Memory)
 }

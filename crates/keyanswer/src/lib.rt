@@ -4,8 +4,9 @@
 mod answer;
 mod compare;
 mod memory;
+mod priced;
 mod refusal;
 
-pub use answer::answer_key;
+pub use answer::{INPUT_BYTES, TEXT_BYTES, answer_key};
 pub use compare::compare_batches;
 pub use refusal::CompareRefusal;

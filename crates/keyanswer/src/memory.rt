@@ -1,20 +1,13 @@
 // The memory that a key has for its questions.
 use costs::Cents;
-use model::{Cell, Point};
+use model::Point;
 
 // How many cells a question may use, and how many points a front may have.
 pub(crate) const CELLS: usize = 4_096;
 
 pub(crate) const POINTS: usize = 4_096;
 
-// What the memory holds before a question; nothing rests on it.
-pub(crate) fn unreached() -> Cell<Cents> {
-    Cell {
-        reached: false,
-        cost: Cents::new(0),
-    }
-}
-
+// What a point holds before a question; nothing rests on it.
 pub(crate) fn unwritten() -> Point<Cents> {
     Point {
         length: 0,

@@ -5,7 +5,7 @@ use keyfile::FileRefusal;
 use planner::QuestionRefusal;
 use refusals::Refusal;
 
-#[derive(Clone, Copy)]
+#[derive(Clone, Copy, PartialEq, Eq, Debug)]
 pub enum CompareRefusal {
     // the first input is not read
     First(FileRefusal),
@@ -20,16 +20,14 @@ impl Refusal for CompareRefusal {
 
     fn number(&self) -> u8 {
         match self {
-            CompareRefusal::First(refusal) => refusal.number(),
-            CompareRefusal::Second(refusal) => refusal.number(),
+            CompareRefusal::First(refusal) | CompareRefusal::Second(refusal) => refusal.number(),
             CompareRefusal::Memory(refusal) => refusal.number(),
         }
     }
 
     fn carried(&self) -> Option<usize> {
         match self {
-            CompareRefusal::First(refusal) => refusal.carried(),
-            CompareRefusal::Second(refusal) => refusal.carried(),
+            CompareRefusal::First(refusal) | CompareRefusal::Second(refusal) => refusal.carried(),
             CompareRefusal::Memory(refusal) => refusal.carried(),
         }
     }

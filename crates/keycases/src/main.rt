@@ -2,7 +2,7 @@
 #![tactic(auto)]
 
 use anyhow::anyhow;
-use keyanswer::answer_key;
+use keyanswer::{TEXT_BYTES, answer_key};
 use std::fs;
 use std::io::Write;
 
@@ -35,12 +35,10 @@ const NAMES: [&str; 24] = [
 
 fn print_answer(rt: &HostRuntime, name: &str) -> anyhow::Result<()> {
     let input = fs::read(rt, name)?;
-    let mut text = [0u8; 98_304];
+    let mut text = [0u8; TEXT_BYTES];
     println!(rt; "{name}:")?;
-    let Ok(len) = answer_key(&input, &mut text) else {
-        return Err(anyhow!("the text is too long"));
-    };
-    rt.stdout().write_all(&text[0..len])?;
+    let len = answer_key(&input, &mut text).map_err(|_| anyhow!("the text is too long"))?;
+    rt.stdout().write_all(&text[..len])?;
     Ok(())
 }
 

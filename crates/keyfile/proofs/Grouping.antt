@@ -5,10 +5,10 @@ use Rattle.std.proofs.lemmas.List.Elements.{filter-append}
 use Rattle.std.proofs.ByRecursion.{All-append, All-weaker, all_kept_by, All-map}
 use Rattle.std.proofs.lemmas.List.{map-append, append-nil}
 use Rattle.std.proofs.lemmas.Bool.{cases_Bool, cond-true, cond-false, and_right, and_parts, eqb-true, eq-eqb, ne_eqb}
-use Rattle.sheets.specs.Tasks.{new_task, SoundTask}
+use Rattle.sheets.specs.Tasks.{new_task, stands_in, SoundTask}
 use Rattle.sheets.specs.declared.task.Task.{Task}
 use Rattle.work.specs.Work.{max_work}
-use Rattle.keyfile.specs.Works.{stands_in, stage_works}
+use Rattle.keyfile.specs.Works.{stage_works}
 
 -- the tasks of works, the first of them in this stage
 abbrev pub tasks_from : ℕ → List (List ℕ) → List Task

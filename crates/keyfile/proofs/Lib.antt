@@ -1,3 +1,4 @@
+pub mod OnNumbers
 pub mod OnReadings
 pub mod OnWorks
 pub mod Grouping

@@ -1,17 +1,16 @@
 -- What is written is read again, and what is read was so written
-use Rattle.std.proofs.Common.{◌≡◌, ℕ, zero, suc, ◌+◌, ◌^◌, ◌<◌, ◌≤◌, Bool, true, false, not, ltb, leb, List, [], ◌∷◌, ◌++◌, map, length, IfOk, Ok, Err, Option, Result, sym, refl, ap, ◌∙◌, subst, append_assoc, add-zero, arith, length-append}
+use Rattle.std.proofs.Common.{◌≡◌, ℕ, zero, suc, ◌+◌, ◌^◌, ◌<◌, ◌≤◌, Bool, true, false, not, ltb, leb, List, [], ◌∷◌, ◌++◌, map, length, Ok, Err, Option, sym, refl, ap, ◌∙◌, subst, append_assoc, add-zero, arith, length-append}
 use Rattle.std.specs.List.{range_with_len, flat_map as joined, AllByRecursion}
 use Rattle.std.proofs.lemmas.List.FromFn.{length-map-range_with_len}
 use Rattle.std.proofs.lemmas.List.{append-nil, length-map, nil_from_length}
 use Rattle.std.proofs.lemmas.Bool.{cond-false, lt-leb, le-leb, ltb-false, and_from}
-use Rattle.refusals.specs.Answer.{Answer, Refused, answer_of}
+use Rattle.refusals.specs.Answer.{Answer}
 use Rattle.numbers.specs.Input.{Input, input, Reading, then, value_of, refused_at}
 use Rattle.numbers.specs.Number.{spelled, number_in}
 use Rattle.numbers.specs.Spellings.{ByteString, SpelledAt}
 use Rattle.numbers.proofs.OnSpellings.{spellings_are_read, only_spellings_are_read}
 use Rattle.sheets.specs.Book.{Book, book, book_of, opened, accepted, checked, answer, number, obeyed, step}
-use Rattle.sheets.specs.History.{after, book_after, Known, Sound}
-use Rattle.sheets.specs.declared.sheet.Sheet.{Sheet}
+use Rattle.sheets.specs.History.{after, book_after, Sound}
 use Rattle.sheets.specs.Tasks.{new_task, max_stages, max_tasks}
 use Rattle.sheets.specs.declared.call.Call.{Call}
 use Rattle.sheets.specs.declared.call.Call.TheVariants.{Stage, Task as NewTask}
@@ -19,9 +18,7 @@ use Rattle.sheets.specs.declared.task.Task.{Task}
 use Rattle.sheets.proofs.Books.{step_accepted}
 use Rattle.sheets.proofs.Histories.{after_append, sheet_sound}
 use Rattle.work.specs.Work.{work_in_range}
-use Rattle.keyfile.specs.declared.refusal.FileRefusal.{FileRefusal}
-use Rattle.keyfile.specs.Refusal.{file_told}
-use Rattle.keyfile.specs.Reading.{called, repeated, ended, giving}
+use Rattle.keyfile.specs.Reading.{called, repeated, ended}
 use Rattle.keyfile.specs.Sheet.{task_in, stage_in, sheet_in, file_in}
 use Rattle.keyfile.specs.Works.{stage_works, works_by_stage, spelled_stage, spelled_sheet, calls_from, file_calls}
 use Rattle.keyfile.specs.Files.{IsReadAgain, WhatIsWrittenIsReadAgain, WhatIsReadWasSoWritten, WhatIsReadIsKnown, AcceptedFilesAreAsWritten, EachSheetHasOneFile}
@@ -34,12 +31,9 @@ pub record Through {A B : Type 0} (first : Reading A) (next : A → Input → Re
   pub read : first ≡ Ok (value, behind)
   pub further : next value behind ≡ Ok found
 
-pub never : {A : Type 0} {C : Type 0} (refused : Refused) (found : A) → ◌≡◌ {A = Answer A} (Err refused) (Ok found) → C
-never refused found e = let z : ◌≡◌ {A = ℕ} 0 1 = cc in absurd (omega arith)
-
 pub through : {A B : Type 0} (first : Reading A) (next : A → Input → Reading B) (found : B × Input) → then first next ≡ Ok found → Through first next found
 through (Ok p) next found e = record { value = p.0; behind = p.1; read = refl; further = e }
-through (Err refused) next found e = never refused found e
+through (Err refused) next found e = cc
 
 pub same : {A : Type 0} (a b : A) → ◌≡◌ {A = Answer A} (Ok a) (Ok b) → a ≡ b
 same a b e = cc
@@ -58,7 +52,7 @@ was_obeyed book call place left found = by (checked book call) refl
         let p = same _ _ h in
         let m : found.0 ≡ obeyed book call = ap (λ q. q.0) (sym p) in
         record { made = m; rest = ap (λ q. q.1) (sym p); stepped = m ∙ sym (step_accepted book call e) }
-    by (Err refused) e h = never _ found h
+    by (Err refused) e h = cc
 
 pub string_behind : (bytes others : List ℕ) → ByteString (bytes ++ others) → ByteString others
 string_behind [] others all = all
@@ -212,14 +206,14 @@ pub ended_all : {A : Type 0} (read : A) (left : Input) (found : A × Input) → 
 ended_all read left found e = by (ltb 0 (length left.bytes)) refl e
   where
     by : (some : Bool) → ltb 0 (length left.bytes) ≡ some → refused_at some 13 left.place (Ok (read, left)) ≡ Ok found → (read ≡ found.0) × (left.bytes ≡ [])
-    by true s h = never _ found h
+    by true s h = cc
     by false s h = (ap (λ q. q.0) (same _ _ h), nil_from_length left.bytes (omega (arith, ltb-false 0 (length left.bytes) s)))
 
 pub accepted_files_are_as_written : AcceptedFilesAreAsWritten
 accepted_files_are_as_written bytes read strung = by (file_in bytes) refl
   where
     by : (reading : Reading Book) → file_in bytes ≡ reading → value_of reading ≡ Ok read → bytes ≡ spelled_sheet (works_by_stage read)
-    by (Err refused) r e = never refused read e
+    by (Err refused) r e = cc
     by (Ok found) r e =
         let parts = through (sheet_in (input 0 bytes)) ended found r in
         let end = ended_all parts.value parts.behind found parts.further in
@@ -323,33 +317,3 @@ written_again book sound = record {
 
 pub what_is_written_is_read_again : WhatIsWrittenIsReadAgain
 what_is_written_is_read_again sheet = written_again (book sheet) (sheet_sound sheet)
-
--- the calls that a sheet has known, by what the call that read it answered
-pub known_from_part : (before : Input) (sheet : Sheet) (r : Result (Unit {0}) FileRefusal) → answer_of file_told (giving (book sheet) r) ≡ value_of (sheet_in before) → IfOk r (λ _. Known sheet (file_calls (works_by_stage (book sheet))))
-known_from_part before sheet (Err refusal) e = tt
-known_from_part before sheet (Ok done) e = by (sheet_in before) refl e
-  where
-    by : (reading : Reading Book) → sheet_in before ≡ reading → Ok (book sheet) ≡ value_of reading → Known sheet (file_calls (works_by_stage (book sheet)))
-    by (Err refused) f h = never refused (book sheet) (sym h)
-    by (Ok found) f h =
-        let read = same (book sheet) found.0 h in
-        let known = what_is_read_is_known before found.0 found.1 f in
-        read ∙ known ∙ ap (λ (b : Book). book_after (file_calls (works_by_stage b))) (sym read)
-
-pub known_from_file : (bytes : List ℕ) (sheet : Sheet) (r : Result (Unit {0}) FileRefusal) → answer_of file_told (giving (book sheet) r) ≡ value_of (file_in bytes) → IfOk r (λ _. Known sheet (file_calls (works_by_stage (book sheet))))
-known_from_file bytes sheet (Err refusal) e = tt
-known_from_file bytes sheet (Ok done) e = by (file_in bytes) refl e
-  where
-    by : (reading : Reading Book) → file_in bytes ≡ reading → Ok (book sheet) ≡ value_of reading → Known sheet (file_calls (works_by_stage (book sheet)))
-    by (Err refused) f h = never refused (book sheet) (sym h)
-    by (Ok found) f h =
-        let parts = through (sheet_in (input 0 bytes)) ended found f in
-        let end = ended_all parts.value parts.behind found parts.further in
-        let read : book sheet ≡ parts.value = same (book sheet) found.0 h ∙ sym end.0 in
-        let known = what_is_read_is_known (input 0 bytes) parts.value parts.behind parts.read in
-        read ∙ known ∙ ap (λ (b : Book). book_after (file_calls (works_by_stage b))) (sym read)
-
--- a file that was read is what writing its sheet puts out, by what the call that read it answered
-pub written_by_file : (bytes : List ℕ) (sheet : Sheet) (r : Result (Unit {0}) FileRefusal) → ByteString bytes → answer_of file_told (giving (book sheet) r) ≡ value_of (file_in bytes) → IfOk r (λ _. bytes ≡ spelled_sheet (works_by_stage (book sheet)))
-written_by_file bytes sheet (Err refusal) strung e = tt
-written_by_file bytes sheet (Ok done) strung e = accepted_files_are_as_written bytes (book sheet) strung (sym e)

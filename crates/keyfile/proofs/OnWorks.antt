@@ -1,13 +1,17 @@
 -- The works of a stage from one task to the next, and of a sheet from one stage to the next
 use Rattle.std.proofs.Common.{◌≡◌, ℕ, suc, ◌+◌, ◌-◌, ◌<◌, ◌≤◌, true, false, List, [], ◌∷◌, ◌++◌, map, length, get_or, drop, sym, ap, ◌∙◌, arith, length-append}
-use Rattle.std.specs.List.{range_with_len, flat_map}
+use Rattle.std.specs.List.{range_with_len, flat_map, sum_by}
+use Rattle.std.proofs.lemmas.List.Concat.{length-flat_map}
+use Rattle.std.proofs.lemmas.List.Folds.{flat_map-map}
 use Rattle.std.proofs.lemmas.List.FromFn.{length-map-range_with_len}
-use Rattle.std.proofs.lemmas.List.{at_drop_more, at_drop_all}
+use Rattle.std.proofs.lemmas.List.{at_drop_more}
 use Rattle.std.proofs.lemmas.Bool.{cond-true, cond-false}
 use Rattle.numbers.specs.Number.{spelled}
+use Rattle.texts.proofs.Pieces.{begun_more, begun_same, begun_short}
 use Rattle.sheets.specs.Book.{Book}
 use Rattle.sheets.specs.declared.task.Task.{Task}
-use Rattle.keyfile.specs.Works.{stands_in, stage_works, works_by_stage, spelled_stage, spelled_sheet}
+use Rattle.sheets.specs.Tasks.{stands_in}
+use Rattle.keyfile.specs.Works.{stage_works, works_by_stage, spelled_stage, spelled_sheet}
 
 module _ (tasks : List Task) (stage i : ℕ) where
   module _ (d : Task) (h : i < length tasks) where
@@ -21,8 +25,12 @@ module _ (tasks : List Task) (stage i : ℕ) where
         at_drop_more (λ (ts : List Task). stage_works ts stage) tasks i d h
         ∙ ap (map (λ (task : Task). task.work)) (cond-false (stands_in stage (get_or tasks i d)) _ _ e)
 
-  pub works_all : length tasks ≤ i → stage_works (drop i tasks) stage ≡ []
-  works_all h = at_drop_all (λ (ts : List Task). stage_works ts stage) tasks i h
+-- a text of works, put one task after the other
+pub ruleset works_steps = (begun_more, begun_same, begun_short, works_standing, works_passed)
+
+-- how many bytes pieces have, each of them made from something
+pub pieces_len : {A B : Type 0} (bytes : B → List ℕ) (part : A → B) (parts : List A) → length (flat_map bytes (map part parts)) ≡ sum_by (λ x. length (bytes (part x))) parts
+pieces_len bytes part parts = ap length (flat_map-map bytes part parts) ∙ length-flat_map (λ x. bytes (part x)) parts
 
 -- the bytes of the stages from one on
 abbrev pub stages_left : List Task → ℕ → ℕ → List ℕ

@@ -1,15 +1,14 @@
 -- The works of a sheet, stage by stage, with the bytes that spell them and the calls that a file of them makes
-use Rattle.std.specs.Prelude.{ℕ, ◌+◌, Bool, not, ◌&&◌, List, [], ◌∷◌, ◌++◌, map, length, filter, ◌==◌}
+use Rattle.std.specs.Prelude.{ℕ, ◌+◌, List, [], ◌∷◌, ◌++◌, map, length, filter}
 use Rattle.std.specs.List.{range_with_len, flat_map}
 use Rattle.numbers.specs.Number.{spelled}
-use Rattle.sheets.specs.Book.{Book}
+use Rattle.sheets.specs.Book.{Book, book}
+use Rattle.sheets.specs.History.{Known}
+use Rattle.sheets.specs.declared.sheet.Sheet.{Sheet}
 use Rattle.sheets.specs.declared.call.Call.{Call}
 use Rattle.sheets.specs.declared.call.Call.TheVariants.{Stage, Task as NewTask}
 use Rattle.sheets.specs.declared.task.Task.{Task}
-
--- the task stands, and in this stage
-abbrev pub stands_in : ℕ → Task → Bool
-stands_in stage task = not task.struck && task.stage == stage
+use Rattle.sheets.specs.Tasks.{stands_in}
 
 -- the works of the standing tasks of a stage, in number order
 abbrev pub stage_works : List Task → ℕ → List ℕ
@@ -33,3 +32,7 @@ calls_from stage (works ∷ stages) = Stage ∷ (map (NewTask stage) works ++ ca
 
 abbrev pub file_calls : List (List ℕ) → List Call
 file_calls stages = calls_from 0 stages
+
+-- the sheet has known exactly the calls that its file spells
+abbrev pub KnownByItsFile : Sheet → Type 0
+KnownByItsFile sheet = Known sheet (file_calls (works_by_stage (book sheet)))

@@ -18,22 +18,13 @@ fn read_line(reader: &mut Reader, card: &mut RateCard) -> Result<(), FileRefusal
     let place = reader.place();
     let speed = reader.number()?;
     let rate = reader.number()?;
-    match card.add(speed, rate) {
-        Ok(_) => Ok(()),
-        Err(refusal) => Err(FileRefusal::Card { refusal, place }),
-    }
-}
-
-fn read_lines(reader: &mut Reader, card: &mut RateCard, count: u32) -> Result<(), FileRefusal>
-    ensures { ReadAs file_told (repeated count line_in (lines_of card.old) (input_of reader.old)) result (lines_of card.new) (input_of reader.new) }
-{
-    for _ in 0..count {
-        read_line(reader, card)?;
-    }
+    card.add(speed, rate)
+        .map_err(|refusal| FileRefusal::Card { refusal, place })?;
     Ok(())
 }
 
 // Reads a card: the line count, then the speed and rate of each line.
+#[tactic(auto, using(crate::proofs::OnReadings::repeated_more))]
 pub fn read_card(reader: &mut Reader) -> Result<RateCard, FileRefusal>
     ensures answer { answer_of file_told (viewed lines_of result) ≡ value_of (card_in (input_of reader.old)) }
     ensures after { input_of reader.new ≡ left_by (card_in (input_of reader.old)) (input_of reader.old) }
@@ -41,7 +32,9 @@ pub fn read_card(reader: &mut Reader) -> Result<RateCard, FileRefusal>
     let mut ahead = *reader;
     let count = ahead.number()?;
     let mut card = RateCard::new();
-    read_lines(&mut ahead, &mut card, count)?;
+    for _ in 0..count {
+        read_line(&mut ahead, &mut card)?;
+    }
     *reader = ahead;
     Ok(card)
 }

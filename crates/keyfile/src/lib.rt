@@ -2,11 +2,13 @@
 #![tactic(auto)]
 
 mod card;
+mod end;
 mod refusal;
 mod sheet;
 mod writing;
 
 pub use card::read_card;
+pub use end::check_end;
 pub use refusal::{FileRefusal, Layer};
 pub use sheet::{read_sheet, read_sheet_from};
 pub use writing::write_sheet;

@@ -17,7 +17,7 @@ pub enum Layer {
     File,
 }
 
-#[derive(Clone, Copy, PartialEq, Debug)]
+#[derive(Clone, Copy, PartialEq, Eq, Debug)]
 pub enum FileRefusal {
     Number(NumberRefusal),
     // a line that the card refused, with the place of its speed
@@ -46,8 +46,7 @@ impl FileRefusal {
             FileRefusal::Number(_) => Layer::Number,
             FileRefusal::Card { .. } => Layer::Card,
             FileRefusal::Sheet { .. } => Layer::Sheet,
-            FileRefusal::Extra(_) => Layer::File,
-            FileRefusal::Question(_) => Layer::File,
+            FileRefusal::Extra(_) | FileRefusal::Question(_) => Layer::File,
         }
     }
 }
@@ -68,10 +67,8 @@ impl Refusal for FileRefusal {
     fn carried(&self) -> Option<usize> {
         match self {
             FileRefusal::Number(refusal) => refusal.carried(),
-            FileRefusal::Card { place, .. } => Some(*place),
-            FileRefusal::Sheet { place, .. } => Some(*place),
-            FileRefusal::Extra(place) => Some(*place),
-            FileRefusal::Question(place) => Some(*place),
+            FileRefusal::Card { place, .. } | FileRefusal::Sheet { place, .. } => Some(*place),
+            FileRefusal::Extra(place) | FileRefusal::Question(place) => Some(*place),
         }
     }
 }

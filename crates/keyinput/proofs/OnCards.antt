@@ -13,7 +13,7 @@ use Rattle.tariffs.specs.Card.{add_answer, lines_after}
 use Rattle.tariffs.specs.Line.{line, line_in_range}
 use Rattle.keyfile.specs.Card.{line_in, card_in}
 use Rattle.keyfile.specs.Reading.{called, repeated}
-use Rattle.keyfile.proofs.OnFiles.{through, never, same, behind_spelled}
+use Rattle.keyfile.proofs.OnFiles.{through, same, behind_spelled}
 use Rattle.keyinput.specs.Spelled.{spelled_line, spelled_card}
 
 -- a line that was added between readings
@@ -29,8 +29,8 @@ was_added lines speed rate place left found = by (leb 32 (length lines)) (line_i
     told full good = refused_if full 4 (refused_if (not good) 5 (Ok (length lines)))
 
     by : (full good : Bool) → line_in_range speed rate ≡ good → called (told full good) (cond (is_ok (told full good)) (lines ++ (line speed rate ∷ [])) lines) place left ≡ Ok found → Added lines speed rate left found
-    by true good r e = never _ found e
-    by false false r e = never _ found e
+    by true good r e = cc
+    by false false r e = cc
     by false true r e = let p = same _ _ e in record { made = ap (λ q. q.0) (sym p); rest = ap (λ q. q.1) (sym p); in_range = r }
 
 -- a line in range keeps its numbers

@@ -11,10 +11,11 @@ use Rattle.keyfile.specs.Card.{card_in}
 use Rattle.keyfile.specs.Reading.{ended}
 use Rattle.keyfile.specs.Sheet.{sheet_in}
 use Rattle.keyfile.specs.Works.{works_by_stage, spelled_sheet}
-use Rattle.keyfile.proofs.OnFiles.{through, never, same, string_behind, behind_spelled, ended_all, what_is_read_was_so_written}
+use Rattle.keyfile.proofs.OnFiles.{through, same, string_behind, behind_spelled, ended_all, what_is_read_was_so_written}
 use Rattle.keyinput.specs.declared.question.Question.{Question}
 use Rattle.keyinput.specs.declared.question.Question.TheVariants.{Front, Budget, Deadline}
 use Rattle.keyinput.specs.Question.{limit_in, question_in}
+use Rattle.keyinput.specs.Batch.{Offer, offer, offer_in}
 use Rattle.keyinput.specs.Input.{Asked, asked, key_in}
 use Rattle.keyinput.specs.Spelled.{spelled_card, spelled_question, spelled_input}
 use Rattle.keyinput.proofs.OnCards.{card_read}
@@ -50,26 +51,39 @@ question_read before question left strung e =
         start 0 (eqb-true n 0 z) ∙ ap (λ (q : Question × Input). spelled_question q.0 ++ q.1.bytes) p
     by n behind false true second z f s strung' start h = limited 1 Budget behind (λ _. refl) strung' (start 1 (eqb-true n 1 f)) h
     by n behind false false true z f s strung' start h = limited 2 Deadline behind (λ _. refl) strung' (start 2 (eqb-true n 2 s)) h
-    by n behind false false false z f s strung' start h = never _ (question, left) h
+    by n behind false false false z f s strung' start h = cc
+
+abbrev spelled_offer : Offer → List ℕ
+spelled_offer offer = spelled_card offer.lines ++ spelled_sheet (works_by_stage offer.book)
+
+offer_read : (before : Input) (read : Offer) (left : Input) → ByteString before.bytes → offer_in before ≡ Ok (read, left) → before.bytes ≡ spelled_offer read ++ left.bytes
+offer_read before read left strung e =
+    let P : List ℕ → Type 0 = ByteString in
+    let card = through (card_in before) (λ lines behind. then (sheet_in behind) (λ book left. Ok (offer lines book, left))) (read, left) e in
+    let sheet = through (sheet_in card.behind) (λ book left. Ok (offer card.value book, left)) (read, left) card.further in
+    let card_bytes = card_read before card.value card.behind strung card.read in
+    let strung_sheet : ByteString card.behind.bytes = string_behind (spelled_card card.value) card.behind.bytes (subst P card_bytes strung) in
+    let sheet_bytes = what_is_read_was_so_written card.behind sheet.value sheet.behind strung_sheet sheet.read in
+    card_bytes
+    ∙ ap (λ l. spelled_card card.value ++ l) sheet_bytes
+    ∙ sym (append_assoc (spelled_card card.value) (spelled_sheet (works_by_stage sheet.value)) sheet.behind.bytes)
+    ∙ ap (λ (q : Offer × Input). spelled_offer q.0 ++ q.1.bytes) (same _ _ sheet.further)
 
 -- what an accepted input was, in bytes
 pub accepted_is_spelled : (bytes : List ℕ) (key : Asked) → ByteString bytes → Ok key ≡ value_of (key_in bytes) → bytes ≡ spelled_input key
 accepted_is_spelled bytes key strung = by (key_in bytes) refl
   where
     by : (reading : Reading Asked) → key_in bytes ≡ reading → Ok key ≡ value_of reading → bytes ≡ spelled_input key
-    by (Err refused) r e = never refused key (sym e)
+    by (Err refused) r e = cc
     by (Ok found) r e =
         let P : List ℕ → Type 0 = ByteString in
-        let card = through (card_in (input 0 bytes)) (λ lines behind_card. then (sheet_in behind_card) (λ book behind_sheet. then (question_in behind_sheet) (λ question. ended (asked lines book question)))) found r in
-        let sheet = through (sheet_in card.behind) (λ book behind_sheet. then (question_in behind_sheet) (λ question. ended (asked card.value book question))) found card.further in
-        let question = through (question_in sheet.behind) (λ question. ended (asked card.value sheet.value question)) found sheet.further in
-        let end = ended_all (asked card.value sheet.value question.value) question.behind found question.further in
-        let card_bytes = card_read (input 0 bytes) card.value card.behind strung card.read in
-        let strung_sheet : ByteString card.behind.bytes = string_behind (spelled_card card.value) card.behind.bytes (subst P card_bytes strung) in
-        let sheet_bytes = what_is_read_was_so_written card.behind sheet.value sheet.behind strung_sheet sheet.read in
-        let strung_question : ByteString sheet.behind.bytes = string_behind (spelled_sheet (works_by_stage sheet.value)) sheet.behind.bytes (subst P sheet_bytes strung_sheet) in
-        let question_bytes = question_read sheet.behind question.value question.behind strung_question question.read in
-        card_bytes
-        ∙ ap (λ l. spelled_card card.value ++ l)
-        (sheet_bytes ∙ ap (λ l. spelled_sheet (works_by_stage sheet.value) ++ l) (question_bytes ∙ ap (λ l. spelled_question question.value ++ l) end.1 ∙ append-nil (spelled_question question.value)))
+        let batch = through (offer_in (input 0 bytes)) (λ offer behind. then (question_in behind) (λ question. ended (asked offer.lines offer.book question))) found r in
+        let question = through (question_in batch.behind) (λ question. ended (asked batch.value.lines batch.value.book question)) found batch.further in
+        let end = ended_all (asked batch.value.lines batch.value.book question.value) question.behind found question.further in
+        let batch_bytes = offer_read (input 0 bytes) batch.value batch.behind strung batch.read in
+        let strung_question : ByteString batch.behind.bytes = string_behind (spelled_offer batch.value) batch.behind.bytes (subst P batch_bytes strung) in
+        let question_bytes = question_read batch.behind question.value question.behind strung_question question.read in
+        batch_bytes
+        ∙ ap (λ l. spelled_offer batch.value ++ l) (question_bytes ∙ ap (λ l. spelled_question question.value ++ l) end.1 ∙ append-nil (spelled_question question.value))
+        ∙ append_assoc (spelled_card batch.value.lines) (spelled_sheet (works_by_stage batch.value.book)) (spelled_question question.value)
         ∙ ap spelled_input (end.0 ∙ sym (same _ _ e))

@@ -1,10 +1,10 @@
 -- How many bytes an input has
-use Rattle.std.proofs.Common.{◌≡◌, ℕ, zero, suc, ◌+◌, ◌*◌, ◌/◌, ◌%◌, ◌<◌, ◌≤◌, Bool, cond, ltb, List, [], ◌∷◌, ◌++◌, length, refl, ap, ⊎_elim, arith, length-append}
+use Rattle.std.proofs.Common.{ℕ, ◌+◌, ◌*◌, ◌≤◌, List, [], ◌∷◌, ◌++◌, length, ⊎_elim, arith, length-append}
 use Rattle.std.specs.List.{flat_map, AllByRecursion}
 use Rattle.std.proofs.lemmas.List.FromFn.{length-map-range_with_len}
 use Rattle.std.proofs.lemmas.List.{length-take}
-use Rattle.std.proofs.lemmas.Bool.{cond_both, lt-ltb, cases_lt}
-use Rattle.numbers.specs.Number.{groups, spelled}
+use Rattle.std.proofs.lemmas.Bool.{cases_lt}
+use Rattle.numbers.specs.Number.{spelled}
 use Rattle.tariffs.specs.declared.card.RateCard.{RateCard}
 use Rattle.tariffs.specs.declared.line.Line.{Line}
 use Rattle.tariffs.specs.Card.{lines_of}
@@ -12,40 +12,13 @@ use Rattle.sheets.specs.Book.{book}
 use Rattle.sheets.specs.declared.sheet.Sheet.{Sheet}
 use Rattle.sheets.proofs.Histories.{sheet_sound}
 use Rattle.keyfile.specs.Works.{stage_works, works_by_stage, spelled_stage, spelled_sheet}
+use Rattle.keyfile.proofs.OnNumbers.{one_byte, two_bytes, three_bytes, five_bytes}
 use Rattle.keyfile.proofs.Grouping.{total, counted, InRange, works_in_range}
 use Rattle.keyinput.specs.declared.input.KeyInput.{KeyInput}
 use Rattle.keyinput.specs.declared.question.Question.{Question}
 use Rattle.keyinput.specs.declared.question.Question.TheVariants.{Front, Budget, Deadline}
 use Rattle.keyinput.specs.Input.{asked_by}
 use Rattle.keyinput.specs.Spelled.{spelled_line, spelled_card, spelled_question, spelled_input, longest_input}
-
--- a number below 128 takes one byte, and each group more takes one more
-one_group : (more n : ℕ) → n < 128 → length (groups more n) ≡ 1
-one_group zero n h = refl
-one_group (suc more) n h = ap (λ (b : Bool). length (cond b (n ∷ []) ((128 + n % 128) ∷ groups more (n / 128)))) (lt-ltb n 128 h)
-
-more_groups : (more n most : ℕ) → length (groups more (n / 128)) ≤ most → length (groups (suc more) n) ≤ suc most
-more_groups more n most h =
-    cond_both (ltb n 128) (n ∷ []) ((128 + n % 128) ∷ groups more (n / 128)) (λ l. length l ≤ suc most) (λ _. omega arith) (λ _. omega arith)
-
-last_group : (n : ℕ) → length (groups 0 n) ≤ 1
-last_group n = omega arith
-
-pub one_byte : (n : ℕ) → n < 128 → length (spelled n) ≡ 1
-unfolding spelled
-one_byte n h = one_group 4 n h
-
-pub two_bytes : (n : ℕ) → n < 16384 → length (spelled n) ≤ 2
-unfolding spelled
-two_bytes n h = more_groups 3 n 1 (let e = one_group 3 (n / 128) (omega arith) in omega arith)
-
-pub three_bytes : (n : ℕ) → n < 2097152 → length (spelled n) ≤ 3
-unfolding spelled
-three_bytes n h = more_groups 3 n 2 (more_groups 2 (n / 128) 1 (let e = one_group 2 (n / 128 / 128) (omega arith) in omega arith))
-
-pub five_bytes : (n : ℕ) → length (spelled n) ≤ 5
-unfolding spelled
-five_bytes n = more_groups 3 n 4 (more_groups 2 (n / 128) 3 (more_groups 1 (n / 128 / 128) 2 (more_groups 0 (n / 128 / 128 / 128) 1 (last_group (n / 128 / 128 / 128 / 128)))))
 
 -- a task count takes a second byte only from 128 on
 count_bytes : (n : ℕ) → n ≤ 256 → 128 * length (spelled n) ≤ 128 + n
@@ -110,9 +83,9 @@ question_bytes (Deadline limit) = let e = one_byte 2 (omega arith) in let f = fi
 
 pub input_bytes : (key : KeyInput) → length (spelled_input (asked_by key)) ≤ longest_input
 input_bytes key =
-    let card = card_bytes key.card in
-    let sheet = sheet_bytes key.sheet in
+    let card = card_bytes key.batch.card in
+    let sheet = sheet_bytes key.batch.sheet in
     let question = question_bytes key.question in
-    let l = length-append (spelled_card (lines_of key.card)) (spelled_sheet (works_by_stage (book key.sheet)) ++ spelled_question key.question) in
-    let m = length-append (spelled_sheet (works_by_stage (book key.sheet))) (spelled_question key.question) in
+    let l = length-append (spelled_card (lines_of key.batch.card)) (spelled_sheet (works_by_stage (book key.batch.sheet)) ++ spelled_question key.question) in
+    let m = length-append (spelled_sheet (works_by_stage (book key.batch.sheet))) (spelled_question key.question) in
     omega arith

@@ -1,15 +1,14 @@
 // A sheet with the card that it is worked by.
-ghost use Rattle.std.specs.Prelude.{◌≡◌, IfOk};
+ghost use Rattle.std.specs.Prelude.{◌≡◌, IfOk, OnOk};
 ghost use Rattle.refusals.specs.Answer.{answer_of};
-ghost use Rattle.numbers.specs.Input.{value_of};
-ghost use Rattle.sheets.specs.Book.{book};
-ghost use Rattle.sheets.specs.History.{Known};
+ghost use Rattle.numbers.specs.Input.{value_of, left_by};
+ghost use Rattle.numbers.specs.Reader.{input_of};
 ghost use Rattle.keyfile.specs.Reading.{viewed};
 ghost use Rattle.keyfile.specs.Refusal.{file_told};
-ghost use Rattle.keyfile.specs.Works.{works_by_stage, file_calls};
-ghost use Rattle.keyinput.specs.Batch.{batch_of, batch_in};
+ghost use Rattle.keyfile.specs.Works.{KnownByItsFile};
+ghost use Rattle.keyinput.specs.Batch.{batch_of, offer_in, batch_in};
 
-use keyfile::{FileRefusal, read_card, read_sheet_from};
+use keyfile::{FileRefusal, check_end, read_card, read_sheet_from};
 use numbers::Reader;
 use sheets::Sheet;
 use tariffs::RateCard;
@@ -20,17 +19,25 @@ pub struct Batch {
     pub sheet: Sheet,
 }
 
+// Reads a card and a sheet, and leaves what stands behind them.
+pub(crate) fn take_batch(reader: &mut Reader) -> Result<Batch, FileRefusal>
+    ensures answer { answer_of file_told (viewed batch_of result) ≡ value_of (offer_in (input_of reader.old)) }
+    ensures after { OnOk result (input_of reader.new ≡ left_by (offer_in (input_of reader.old)) (input_of reader.old)) }
+    ensures known { IfOk result (λ batch. KnownByItsFile batch.sheet) }
+{
+    let card = read_card(reader)?;
+    let mut sheet = Sheet::open();
+    read_sheet_from(reader, &mut sheet)?;
+    Ok(Batch { card, sheet })
+}
+
 // Reads a card and a sheet, with nothing behind them.
 pub fn read_batch(bytes: &[u8]) -> Result<Batch, FileRefusal>
     ensures answer { answer_of file_told (viewed batch_of result) ≡ value_of (batch_in bytes.now) }
-    ensures known { IfOk result (λ batch. Known batch.sheet (file_calls (works_by_stage (book batch.sheet)))) }
+    ensures known { IfOk result (λ batch. KnownByItsFile batch.sheet) }
 {
     let mut reader = Reader::new(bytes);
-    let card = read_card(&mut reader)?;
-    let mut sheet = Sheet::open();
-    read_sheet_from(&mut reader, &mut sheet)?;
-    if !reader.at_end() {
-        return Err(FileRefusal::Extra(reader.place()));
-    }
-    Ok(Batch { card, sheet })
+    let batch = take_batch(&mut reader)?;
+    check_end(&reader)?;
+    Ok(batch)
 }

@@ -10,7 +10,7 @@ use keyfile::FileRefusal;
 use numbers::Reader;
 
 // The front, or a plan under a greatest cost in cents or a greatest length in minutes.
-#[derive(Clone, Copy)]
+#[derive(Clone, Copy, PartialEq, Eq, Debug)]
 pub enum Question {
     Front,
     Budget(u32),

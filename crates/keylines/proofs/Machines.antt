@@ -1,44 +1,47 @@
 -- The machines of a plan, task by task
-use Rattle.std.proofs.Common.{◌≡◌, ℕ, ◌+◌, ◌<◌, ◌≤◌, min, true, false, cond, List, [], ◌∷◌, ◌++◌, length, get_or, take, drop, set, refl, ap, ◌∙◌, ⊎_elim, append_assoc, arith}
-use Rattle.std.proofs.lemmas.List.{drop_more, drop_all, take_more_set}
-use Rattle.std.proofs.lemmas.Bool.{cases_lt}
-use Rattle.sheets.specs.Tasks.{no_task}
+use Rattle.std.proofs.Common.{◌≡◌, ℕ, ◌+◌, ◌<◌, ◌≤◌, true, false, cond, List, [], ◌∷◌, ◌++◌, length, get_or, take, drop, set, refl, sym, ap, ◌∙◌, append_assoc, arith}
+use Rattle.std.specs.List.{zip, enumerate_from}
+use Rattle.std.proofs.lemmas.List.{at_drop_more, take_more_set}
 use Rattle.sheets.specs.declared.task.Task.{Task}
 use Rattle.keylines.specs.declared.machine.Assigned.{Assigned}
 use Rattle.keylines.specs.Machine.{assigned}
 use Rattle.keylines.specs.Plan.{machines_from}
 
--- without a plan's bytes there are none
-machines_none : (number : ℕ) (tasks : List Task) → machines_from number tasks [] ≡ []
-machines_none number [] = refl
-machines_none number (task ∷ tasks) = refl
+-- a task by its number, and its byte of the plan
+abbrev pub Numbered : Type 0
+Numbered = ℕ × (Task × ℕ)
 
-module _ (tasks : List Task) (plan : List ℕ) (i : ℕ) where
-  abbrev pub machines_left : ℕ → List Assigned
-  machines_left n = machines_from n (drop n tasks) (drop n plan)
+abbrev pub numbered : List Task → List ℕ → List Numbered
+numbered tasks plan = enumerate_from 0 (zip tasks plan)
 
-  module _ (h : i < length tasks) (k : i < length plan) where
-    next : machines_left i ≡ cond (get_or tasks i no_task).struck (machines_left (i + 1)) (assigned i (get_or plan i 0) ∷ machines_left (i + 1))
-    next =
-        ap (λ l. machines_from i l (drop i plan)) (drop_more tasks i no_task h)
-        ∙ ap (λ l. machines_from i (get_or tasks i no_task ∷ drop (i + 1) tasks) l) (drop_more plan i 0 k)
+abbrev pub machines_in : List Numbered → List Assigned
+machines_in [] = []
+machines_in (n ∷ ns) = cond n.1.0.struck (machines_in ns) (assigned n.0 n.1.1 ∷ machines_in ns)
 
-    pub machines_struck : (get_or tasks i no_task).struck ≡ true → machines_left i ≡ machines_left (i + 1)
-    machines_struck e = next ∙ ap (λ b. cond b (machines_left (i + 1)) (assigned i (get_or plan i 0) ∷ machines_left (i + 1))) e
+pub machines_numbered : (number : ℕ) (tasks : List Task) (plan : List ℕ) → machines_in (enumerate_from number (zip tasks plan)) ≡ machines_from number tasks plan
+machines_numbered number [] plan = refl
+machines_numbered number (task ∷ tasks) [] = refl
+machines_numbered number (task ∷ tasks) (byte ∷ plan) =
+    ap (λ list. cond task.struck list (assigned number byte ∷ list)) (machines_numbered (number + 1) tasks plan)
 
-    pub machines_standing : (get_or tasks i no_task).struck ≡ false → machines_left i ≡ assigned i (get_or plan i 0) ∷ machines_left (i + 1)
-    machines_standing e = next ∙ ap (λ b. cond b (machines_left (i + 1)) (assigned i (get_or plan i 0) ∷ machines_left (i + 1))) e
+pub numbered_few : (number : ℕ) (tasks : List Task) (plan : List ℕ) → length (enumerate_from number (zip tasks plan)) ≤ length tasks
+numbered_few number [] plan = omega arith
+numbered_few number (task ∷ tasks) [] = omega arith
+numbered_few number (task ∷ tasks) (byte ∷ plan) = let few = numbered_few (number + 1) tasks plan in omega arith
 
-  pub machines_all : min (length tasks) (length plan) ≤ i → machines_left i ≡ []
-  machines_all h =
-      ⊎_elim
-      (λ within. ap (λ l. machines_from i (drop i tasks) l) (drop_all i plan (omega arith)) ∙ machines_none i (drop i tasks))
-      (λ past. ap (λ l. machines_from i l (drop i plan)) (drop_all i tasks past))
-      (cases_lt i (length tasks))
+module _ (all : List Numbered) (i : ℕ) (n : Numbered) (h : i < length all) (is : n ≡ get_or all i n) (list : List Assigned) (count : ℕ) where
+  next : machines_in (drop i all) ≡ cond n.1.0.struck (machines_in (drop (i + 1) all)) (assigned n.0 n.1.1 ∷ machines_in (drop (i + 1) all))
+  next = at_drop_more machines_in all i n h ∙ ap (λ m. machines_in (m ∷ drop (i + 1) all)) (sym is)
 
--- a list that grows by one, and what is left behind it
-pub list_more : (list : List Assigned) (count : ℕ) (a : Assigned) (left : List Assigned) → count < length list → take (count + 1) (set list count a) ++ left ≡ take count list ++ (a ∷ left)
-list_more list count a left h = ap (λ l. l ++ left) (take_more_set list count a h) ∙ append_assoc (take count list) (a ∷ []) left
+  pub list_kept : n.1.0.struck ≡ true → take count list ++ machines_in (drop (i + 1) all) ≡ take count list ++ machines_in (drop i all)
+  list_kept e =
+      ap (λ l. take count list ++ l) (sym (next ∙ ap (λ b. cond b (machines_in (drop (i + 1) all)) (assigned n.0 n.1.1 ∷ machines_in (drop (i + 1) all))) e))
+
+  pub list_more : n.1.0.struck ≡ false → count < length list → take (count + 1) (set list count (assigned n.0 n.1.1)) ++ machines_in (drop (i + 1) all) ≡ take count list ++ machines_in (drop i all)
+  list_more e room =
+      ap (λ l. l ++ machines_in (drop (i + 1) all)) (take_more_set list count (assigned n.0 n.1.1) room)
+      ∙ append_assoc (take count list) (assigned n.0 n.1.1 ∷ []) (machines_in (drop (i + 1) all))
+      ∙ ap (λ l. take count list ++ l) (sym (next ∙ ap (λ b. cond b (machines_in (drop (i + 1) all)) (assigned n.0 n.1.1 ∷ machines_in (drop (i + 1) all))) e))
 
 -- bytes behind those of the tasks give no machines
 pub machines_written : (number : ℕ) (tasks : List Task) (plan rest : List ℕ) → length plan ≡ length tasks → machines_from number tasks (plan ++ rest) ≡ machines_from number tasks plan

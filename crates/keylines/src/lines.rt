@@ -1,11 +1,9 @@
 // Lines one behind another.
-ghost use Rattle.std.specs.Prelude.{◌≡◌};
+ghost use Rattle.std.specs.Prelude.{◌≡◌, ◌≤◌, length};
 ghost use Rattle.std.specs.List.{flat_map};
-ghost use Rattle.refusals.specs.Answer.{answer_of};
 ghost use Rattle.texts.specs.Putting.{Puts};
 ghost use Rattle.texts.specs.Room.{room_behind};
-ghost use Rattle.texts.specs.TooShort.{too_short_told};
-ghost use Rattle.texts.specs.Write.{write_answer, write_after};
+ghost use Rattle.texts.specs.Write.{Writes};
 
 use crate::Line;
 use texts::TooShort;
@@ -21,39 +19,26 @@ pub(crate) fn lines_room<L: Line>(lines: &[L], room: usize) -> Option<usize>
     Some(left)
 }
 
-// Puts a line at a place, and returns the place behind it.
-pub(crate) fn put_line<L: Line>(line: &L, memory: &mut [u8], at: usize) -> Result<usize, TooShort>
-    ensures { Puts memory.old at (L.Line.line line.now) memory.new result }
-{
-    if at > memory.len() {
-        return Err(TooShort);
-    }
-    let len = line.write(&mut memory[at..])?;
-    Ok(at + len)
-}
-
 // Puts the lines at a place, and returns the place behind them.
 pub(crate) fn put_lines<L: Line>(
     lines: &[L],
     memory: &mut [u8],
     at: usize,
 ) -> Result<usize, TooShort>
+    requires { at ≤ length memory.old }
     ensures { Puts memory.old at (flat_map L.Line.line lines.now) memory.new result }
 {
     let mut end = at;
     for line in lines {
-        end = put_line(line, memory, end)?;
+        end += line.write(&mut memory[end..])?;
     }
     Ok(end)
 }
 
 // Writes the lines at the start of the memory, and returns how many bytes that took.
 pub fn write_lines<L: Line>(lines: &[L], memory: &mut [u8]) -> Result<usize, TooShort>
-    ensures answer { answer_of too_short_told result ≡ write_answer (flat_map L.Line.line lines.now) memory.old }
-    ensures after { memory.new ≡ write_after (flat_map L.Line.line lines.now) memory.old }
+    ensures { Writes (flat_map L.Line.line lines.now) memory.old memory.new result }
 {
-    if lines_room(lines, memory.len()).is_none() {
-        return Err(TooShort);
-    }
+    lines_room(lines, memory.len()).ok_or(TooShort)?;
     put_lines(lines, memory, 0)
 }

@@ -6,7 +6,7 @@ use crate::Line;
 use texts::{TooShort, Word, line_room, write_line};
 
 // A task number and the machine that a plan gives it.
-#[derive(Clone, Copy)]
+#[derive(Clone, Copy, PartialEq, Eq, Default, Debug)]
 pub struct Assigned {
     pub task: usize,
     pub machine: u8,

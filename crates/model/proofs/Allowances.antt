@@ -77,7 +77,7 @@ module _ {C : Type 0} {K : Kind C} (L : Laws K) (T : Meaning C) where
           )
 
       go : (r : Option (Choice C)) → Chosen w a n r → (o : Option (Quote C)) → quote_of T w n ≡ o → Chosen w a (suc n) (cheaper_choice K r (choice_within a n o))
-      go r h None e = skip r h (λ v f k. let z : ◌≡◌ {A = ℕ} 0 1 = cc in omega arith)
+      go r h None e = skip r h (λ v f k. cc)
       go r h (Some q) e = at (leb q.minutes a) refl
         where
           at : (x : Bool) → leb q.minutes a ≡ x → Chosen w a (suc n) (cheaper_choice K r (cond x (Some (record { machine = n; cost = q.cost })) None))
@@ -153,16 +153,9 @@ module _ {C : Type 0} {K : Kind C} (L : Laws K) where
   joined_neutral None = refl
   joined_neutral (Some x) = ap Some (L.commutative K.neutral x ∙ L.identity x)
 
-  pub joined_neutral_right : (o : Option C) → joined K o (Some K.neutral) ≡ o
-  joined_neutral_right None = refl
-  joined_neutral_right (Some x) = ap Some (L.identity x)
-
   module _ (T : Meaning C) where
     pub cost_within_append : (tasks others : List Task) (a : ℕ) → cost_within K T (tasks ++ others) a ≡ joined K (cost_within K T tasks a) (cost_within K T others a)
     cost_within_append [] others a = sym (joined_neutral (cost_within K T others a))
     cost_within_append (task ∷ tasks) others a =
         ap (joined K (option_map (λ (choice : Choice C). choice.cost) (cheapest K T task a))) (cost_within_append tasks others a)
         ∙ sym (joined_assoc (option_map (λ (choice : Choice C). choice.cost) (cheapest K T task a)) (cost_within K T tasks a) (cost_within K T others a))
-
-    pub cost_within_push : (tasks : List Task) (task : Task) (a : ℕ) → cost_within K T (tasks ++ (task ∷ [])) a ≡ joined K (cost_within K T tasks a) (option_map (λ choice. choice.cost) (cheapest K T task a))
-    cost_within_push tasks task a = cost_within_append tasks (task ∷ []) a ∙ ap (joined K (cost_within K T tasks a)) (joined_neutral_right (option_map (λ (choice : Choice C). choice.cost) (cheapest K T task a)))

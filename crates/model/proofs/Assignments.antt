@@ -9,7 +9,8 @@ use Rattle.tariffs.specs.declared.quote.Quote.{Quote}
 use Rattle.sheets.specs.declared.task.Task.{Task}
 use Rattle.model.specs.declared.point.Point.{Point}
 use Rattle.model.specs.Lists.{In, Paired, selections, any, is_empty}
-use Rattle.model.specs.Assignment.{stands_in, stage_tasks, quote_of, Quoted, quoting, IsAssignment, assignments, pair_of, pairs, HasPair, AssignmentsAreAll}
+use Rattle.sheets.specs.Tasks.{stands_in}
+use Rattle.model.specs.Assignment.{stage_tasks, quote_of, Quoted, quoting, IsAssignment, assignments, pair_of, pairs, HasPair, AssignmentsAreAll}
 use Rattle.model.proofs.Lists.{in_kept_by, of_kept_by, in_map, of_map, in_counting, in_selections, of_selections, selections_empty, any_map, paired_to, paired_from}
 
 module _ {C : Type 0} (T : Meaning C) where
@@ -29,7 +30,7 @@ module _ {C : Type 0} (T : Meaning C) where
     quote_timed task machine q e = F.timed machine task.work q e
 
     pub below_count : (task : Task) (machine : ℕ) (q : Quote C) → quote_of T task machine ≡ Some q → machine < T.count
-    below_count task machine q e = elim (cases_lt machine T.count) [ inl l ↦ l | inr g ↦ let d = quote_listed task machine g in let z : ◌≡◌ {A = ℕ} 0 1 = cc in absurd (omega arith) ]
+    below_count task machine q e = elim (cases_lt machine T.count) [ inl l ↦ l | inr g ↦ let d = quote_listed task machine g in cc ]
 
     pub in_quoting : (task : Task) (machine : ℕ) → Quoted T task machine → In machine (quoting T task)
     in_quoting task machine q = in_kept_by _ (in_counting 0 T.count machine zero-le (omega (arith, below_count task machine q.0 q.1))) (ap is_some q.1)

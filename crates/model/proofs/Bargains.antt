@@ -1,5 +1,5 @@
 -- Two sheets with equal fronts offer the same bargains
-use Rattle.std.proofs.Common.{◌≡◌, ℕ, Bool, true, false, ltb, leb, ◌↔◌, List, [], ◌∷◌, ◌++◌, length, take, drop, is_some, Some, None, Ok, Err, filter, Option, sym, refl, ap, ◌∙◌, subst, le_trans, arith}
+use Rattle.std.proofs.Common.{◌≡◌, ℕ, Bool, true, false, ltb, leb, ◌↔◌, List, [], ◌∷◌, ◌++◌, length, take, drop, is_some, Some, None, Ok, Err, filter, Option, sym, refl, ap, ◌∙◌, subst, le_trans}
 use Rattle.std.proofs.lemmas.List.{take_at}
 use Rattle.std.proofs.lemmas.Bool.{both_ways, le-leb, leb-true, le-ltb}
 use Rattle.refusals.specs.Answer.{Answer, refused_if}
@@ -81,8 +81,8 @@ module _ {C : Type 0} {K : Kind C} (L : Laws K) where
   -- results from the same least pair, refused by 9 together, agree
   agree : (x y : Option ℕ) (o u : Option (Point C)) → is_some x ≡ is_some y → o ≡ u → Agree (unless_unquoted x (or_none_within o)) (unless_unquoted y (or_none_within u))
   agree None None None None e f = refl
-  agree None None None (Some q) e f = let z : ◌≡◌ {A = ℕ} 0 1 = cc in absurd (omega arith)
-  agree None None (Some p) None e f = let z : ◌≡◌ {A = ℕ} 0 1 = cc in absurd (omega arith)
+  agree None None None (Some q) e f = cc
+  agree None None (Some p) None e f = cc
   agree None None (Some p) (Some q) e f = cc
   agree None (Some n) o u e f = absurd (both_ways false refl e)
   agree (Some m) None o u e f = absurd (both_ways false refl (sym e))
@@ -111,10 +111,10 @@ module _ {C : Type 0} {K : Kind C} (L : Laws K) where
 
   -- what agrees with something found was found
   found_too : (x y : Option ℕ) (o u : Option (Point C)) (m : Point C) → x ≡ None → o ≡ Some m → Agree (unless_unquoted x (or_none_within o)) (unless_unquoted y (or_none_within u)) → u ≡ Some m
-  found_too (Some n) y o u m e f a = let z : ◌≡◌ {A = ℕ} 0 1 = cc in absurd (omega arith)
-  found_too None (Some n) None u m e f a = let z : ◌≡◌ {A = ℕ} 0 1 = cc in absurd (omega arith)
+  found_too (Some n) y o u m e f a = cc
+  found_too None (Some n) None u m e f a = cc
   found_too None (Some n) (Some p) u m e f a = absurd a
-  found_too None None None u m e f a = let z : ◌≡◌ {A = ℕ} 0 1 = cc in absurd (omega arith)
+  found_too None None None u m e f a = cc
   found_too None None (Some p) None m e f a = absurd a
   found_too None None (Some p) (Some q) m e f a = cc
 

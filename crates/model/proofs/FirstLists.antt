@@ -29,8 +29,8 @@ first_from_is f a (suc n) b l m t = go (λ k. first_from_is f (a + 1) n b k (ome
 
 module _ {C : Type 0} {K : Kind C} (L : Laws K) where
   pub joined_parts : (o u : Option C) (x : C) → joined K o u ≡ Some x → (y : C) × (z : C) × (o ≡ Some y) × (u ≡ Some z) × (x ≡ K.join y z)
-  joined_parts None u x e = let z : ◌≡◌ {A = ℕ} 0 1 = cc in absurd (omega arith)
-  joined_parts (Some y) None x e = let z : ◌≡◌ {A = ℕ} 0 1 = cc in absurd (omega arith)
+  joined_parts None u x e = cc
+  joined_parts (Some y) None x e = cc
   joined_parts (Some y) (Some z) x e = (y, z, refl, refl, (cc))
 
   -- at most what an option holds

@@ -5,10 +5,10 @@ use Rattle.std.proofs.lemmas.Bool.{eq-eqb, ne_eqb, cases_eq}
 use Rattle.costs.specs.Kind.{Kind, Laws}
 use Rattle.tariffs.specs.Meaning.{Meaning}
 use Rattle.sheets.specs.History.{book_after}
-use Rattle.sheets.specs.Tasks.{SoundTask}
+use Rattle.sheets.specs.Tasks.{SoundTask, stands_in}
 use Rattle.sheets.specs.declared.task.Task.{Task}
 use Rattle.sheets.proofs.Histories.{book_sound}
-use Rattle.model.specs.Assignment.{stands_in, stage_tasks, quote_of, charge_of, stage_cost, cost_of}
+use Rattle.model.specs.Assignment.{stage_tasks, quote_of, charge_of, stage_cost, cost_of}
 use Rattle.model.specs.Plan.{stage_machines, joined_by_number, StagesJoinAllCosts}
 
 module _ {C : Type 0} {K : Kind C} (L : Laws K) (T : Meaning C) where

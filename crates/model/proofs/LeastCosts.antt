@@ -74,7 +74,7 @@ module _ {C : Type 0} {K : Kind C} (L : Laws K) where
 
     within_least : (a m : ℕ) (o : Option (Quote C)) → IsLeast K (Priced a o) (price_of (choice_within a m o))
     unfolding Priced
-    within_least a m None = λ c p. let e = p.1 in let z : ◌≡◌ {A = ℕ} 0 1 = cc in omega arith
+    within_least a m None = λ c p. let e = p.1 in cc
     within_least a m (Some q) = go (leb q.minutes a) refl
       where
         same : (r : Quote C) → Some q ≡ Some r → q ≡ r

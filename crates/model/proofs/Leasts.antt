@@ -1,5 +1,5 @@
 -- The least of a list
-use Rattle.std.proofs.Common.{◌≡◌, ℕ, Bool, true, false, cond, ◌⊎◌, ◌↔◌, List, [], ◌∷◌, Some, None, Option, refl, ap, inl, inr, arith}
+use Rattle.std.proofs.Common.{◌≡◌, Bool, true, false, cond, ◌⊎◌, ◌↔◌, List, [], ◌∷◌, Some, None, Option, refl, ap, inl, inr}
 use Rattle.std.proofs.lemmas.Bool.{both_ways}
 use Rattle.costs.specs.Kind.{Kind, Laws}
 use Rattle.model.specs.Lists.{In, here, later, lesser, least}
@@ -54,4 +54,4 @@ module _ {A : Type 0} {before : A → A → Bool} (O : Order before) where
     where
       go : (o : Option A) → Least xs o → (o ≡ None) ↔ ((x : A) → In x xs → ⊥)
       go None h = ((λ _. h), λ _. refl)
-      go (Some m) h = ((λ e. let z : ◌≡◌ {A = ℕ} 0 1 = cc in absurd (omega arith)), λ k. absurd (k m h.0))
+      go (Some m) h = ((λ e. cc), λ k. absurd (k m h.0))

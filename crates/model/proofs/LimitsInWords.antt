@@ -19,9 +19,9 @@ use Rattle.model.proofs.Unquoted.{none_unquoted, lowest_is, all_quoted}
 
 -- what is found is the least
 pub found_least : {C : Type 0} (x : Option ℕ) (o : Option (Point C)) (p : Point C) → unless_unquoted x (or_none_within o) ≡ Ok p → o ≡ Some p
-found_least None None p e = let z : ◌≡◌ {A = ℕ} 0 1 = cc in absurd (omega arith)
+found_least None None p e = cc
 found_least None (Some q) p e = let z : q ≡ p = cc in ap Some z
-found_least (Some n) o p e = let z : ◌≡◌ {A = ℕ} 0 1 = cc in absurd (omega arith)
+found_least (Some n) o p e = cc
 
 pub none_of : (o : Option ℕ) → is_some o ≡ false → o ≡ None
 none_of None e = refl
@@ -32,14 +32,14 @@ apart : {A : Type 0} (n : ℕ) → plain 10 ≡ carrying 9 n → A
 apart n e = let z : ◌≡◌ {A = ℕ} 10 9 = ap (λ (r : Refused). r.number) e in absurd (omega arith)
 
 refused_unquoted : {C : Type 0} (x : Option ℕ) (o : Option (Point C)) (n : ℕ) → (x ≡ Some n) ↔ (unless_unquoted x (or_none_within o) ≡ Err (carrying 9 n))
-refused_unquoted None None n = ((λ e. let z : ◌≡◌ {A = ℕ} 0 1 = cc in absurd (omega arith)), λ e. let r : plain 10 ≡ carrying 9 n = cc in apart n r)
-refused_unquoted None (Some p) n = ((λ e. let z : ◌≡◌ {A = ℕ} 0 1 = cc in absurd (omega arith)), λ e. let z : ◌≡◌ {A = ℕ} 0 1 = cc in absurd (omega arith))
+refused_unquoted None None n = ((λ e. cc), λ e. let r : plain 10 ≡ carrying 9 n = cc in apart n r)
+refused_unquoted None (Some p) n = ((λ e. cc), λ e. cc)
 refused_unquoted (Some k) o n = ((λ e. let f : k ≡ n = cc in ap (λ (i : ℕ). Err (carrying 9 i)) f), λ e. let r : carrying 9 k ≡ carrying 9 n = cc in ap (λ (x : Refused). x.carried) r)
 
 refused_none_within : {C : Type 0} (x : Option ℕ) (o : Option (Point C)) → ((x ≡ None) × (o ≡ None)) ↔ (unless_unquoted x (or_none_within o) ≡ Err (plain 10))
 refused_none_within None None = ((λ _. refl), λ _. (refl, refl))
-refused_none_within None (Some p) = ((λ a. let e = a.1 in let z : ◌≡◌ {A = ℕ} 0 1 = cc in absurd (omega arith)), λ e. let z : ◌≡◌ {A = ℕ} 0 1 = cc in absurd (omega arith))
-refused_none_within (Some k) o = ((λ a. let e = a.0 in let z : ◌≡◌ {A = ℕ} 0 1 = cc in absurd (omega arith)), λ e. let r : carrying 9 k ≡ plain 10 = cc in apart k (sym r))
+refused_none_within None (Some p) = ((λ a. let e = a.1 in cc), λ e. cc)
+refused_none_within (Some k) o = ((λ a. let e = a.0 in cc), λ e. let r : carrying 9 k ≡ plain 10 = cc in apart k (sym r))
 
 module _ {C : Type 0} {K : Kind C} (L : Laws K) (T : Meaning C) (F : Ranged T) (b : Book) where
   module _ (sound : Sound b) where

@@ -141,11 +141,6 @@ pub in_counting : (a n m : ℕ) → a ≤ m → m < a + n → In m (range_with_l
 in_counting a zero m l h = absurd (omega arith)
 in_counting a (suc n) m l h = elim (cases_lt a m) [ inl g ↦ later (in_counting (a + 1) n m (omega arith) (omega arith)) | inr g ↦ here (omega arith) ]
 
-pub of_counting : (a n m : ℕ) → In m (range_with_len a n) → (a ≤ m) × (m < a + n)
-of_counting a zero m i = elim i [ ]
-of_counting a (suc n) m (here e) = (omega arith, omega arith)
-of_counting a (suc n) m (later i) = let r = of_counting (a + 1) n m i in (omega (arith, r.0), omega (arith, r.1))
-
 -- some element passes
 module _ {A : Type 0} (f : A → Bool) where
   pub any_of : {x : A} {xs : List A} → In x xs → f x ≡ true → any f xs ≡ true

@@ -1,29 +1,26 @@
 -- What the loops over stages, tasks, minutes and cells add to
-use Rattle.std.proofs.Common.{◌≡◌, ℕ, zero, suc, ◌+◌, ◌-◌, ◌*◌, ◌/◌, ◌%◌, ◌<◌, ◌≤◌, min, max, Bool, true, false, cond, ◌&&◌, ◌||◌, leb, ◌⊎◌, List, [], ◌∷◌, ◌++◌, length, get_or, take, drop, Some, None, filter, Option, sym, refl, ap, ◌∙◌, subst, ap₂, inl, inr, zero-le, le_trans, le_refl, mul_comm, zero-mul, add-one, arith}
-use Rattle.std.specs.Option.{option_map}
-use Rattle.std.proofs.lemmas.Nat.{mul-le, mul-add-lt, div-mul-add, mod-mul-add}
+use Rattle.std.proofs.Common.{◌≡◌, ℕ, zero, suc, ◌+◌, ◌-◌, ◌*◌, ◌/◌, ◌%◌, ◌<◌, ◌≤◌, min, max, Bool, true, false, cond, ◌||◌, ◌⊎◌, List, [], ◌∷◌, ◌++◌, length, get_or, take, drop, Some, None, filter, Option, sym, refl, ap, ◌∙◌, subst, ap₂, inl, inr, zero-le, le_trans, le_refl, mul_comm, add-one, arith}
+use Rattle.std.proofs.lemmas.Nat.{mul-add-lt, div-mul-add, mod-mul-add}
 use Rattle.std.proofs.lemmas.List.FromFn.{length-map-range_with_len, get_or-map-range_with_len}
 use Rattle.std.proofs.lemmas.List.Elements.{filter_more}
-use Rattle.std.proofs.lemmas.List.{append-nil, get_or_append_left, length-append, drop_more, drop_all, take_more}
-use Rattle.std.proofs.lemmas.Bool.{both_ways, cases_lt, le-leb, lt-leb, and_right}
+use Rattle.std.proofs.lemmas.List.{append-nil, get_or_append_left, drop_more, drop_all, take_more}
+use Rattle.std.proofs.lemmas.Bool.{both_ways, cases_lt, le-leb, lt-leb}
 use Rattle.costs.specs.Kind.{Kind, Laws}
 use Rattle.tariffs.specs.Meaning.{Meaning, Ranged}
 use Rattle.tariffs.specs.declared.quote.Quote.{Quote}
 use Rattle.sheets.specs.Book.{Book}
-use Rattle.sheets.specs.History.{Sound}
 use Rattle.sheets.specs.declared.task.Task.{Task}
 use Rattle.model.specs.declared.cell.Cell.{Cell}
-use Rattle.model.specs.declared.choice.Choice.{Choice}
 use Rattle.model.specs.declared.point.Point.{Point}
-use Rattle.model.specs.Lists.{In, here, later, is_empty, any, least}
-use Rattle.model.specs.Assignment.{stands_in, stage_tasks, standing, quote_of, minutes_of, pairs}
-use Rattle.model.specs.Allowance.{joined, cheaper, cheapest_of, cheapest, cost_within, greatest_time_below, greatest_time, is_time}
+use Rattle.model.specs.Lists.{In, here, later, any, least}
+use Rattle.sheets.specs.Tasks.{stands_in}
+use Rattle.model.specs.Assignment.{stage_tasks, standing, quote_of, minutes_of, pairs}
+use Rattle.model.specs.Allowance.{cheaper, cheapest_of, cost_within, greatest_time_below, greatest_time}
 use Rattle.model.specs.Cell.{span, width, place, cells_needed, cell_of, cost_in, least_cost, cell, table, offer}
 use Rattle.model.specs.Limit.{cheaper_then_shorter, within_budget, within_deadline}
 use Rattle.model.specs.Plan.{first_from, first_allowance, first_list, or_neutral}
-use Rattle.model.specs.Scan.{point, drops, point_at, drops_below, first_below}
+use Rattle.model.specs.Scan.{first_below}
 use Rattle.model.proofs.Assignments.{of_pairs, quote_timed}
-use Rattle.model.proofs.Allowances.{cost_within_push}
 use Rattle.model.proofs.LeastCosts.{by_times, none_left}
 use Rattle.model.proofs.Rows.{deadline_row_none}
 use Rattle.model.proofs.Scans.{budget_scan, deadline_scan}
@@ -56,10 +53,6 @@ pub any_append : {A : Type 0} (test : A → Bool) (xs ys : List A) → any test 
 any_append test [] ys = refl
 any_append test (x ∷ xs) ys = elim (test x) as (λ b. (b || any test (xs ++ ys)) ≡ ((b || any test xs) || any test ys)) [ true ↦ refl | false ↦ any_append test xs ys ]
 
-pub is_empty_append : {A : Type 0} (xs ys : List A) → is_empty (xs ++ ys) ≡ (is_empty xs && is_empty ys)
-is_empty_append [] ys = refl
-is_empty_append (x ∷ xs) ys = refl
-
 -- times
 module _ {C : Type 0} (T : Meaning C) where
   pub greatest_time_more : (tasks : List Task) (stage i : ℕ) (d : Task) → i < length tasks →
@@ -78,9 +71,6 @@ module _ {C : Type 0} (T : Meaning C) where
       ap (span T) (take_more (standing book) j [] (omega (arith, stage_count book)))
       ∙ span_append T (take j (standing book)) (get_or (standing book) j [] ∷ [])
       ∙ (let e : greatest_time T (get_or (standing book) j []) ≡ greatest_time T (stage_tasks book.tasks j) = ap (greatest_time T) (stage_at book j l) in omega arith)
-
-  pub span_step : (book : Book) (j : ℕ) → j < book.stages → span T (drop j (standing book)) ≡ greatest_time T (stage_tasks book.tasks j) + span T (drop (j + 1) (standing book))
-  span_step book j l = ap (span T) (stages_step book j l)
 
   module _ (F : Ranged T) where
     minutes_bound : (task : Task) (machine : ℕ) → minutes_of (quote_of T task machine) ≤ 1440
@@ -102,13 +92,6 @@ module _ {C : Type 0} (T : Meaning C) where
     span_bound [] = zero-le
     span_bound (tasks ∷ stages) = omega (arith, greatest_time_bound tasks, span_bound stages)
 
-    -- what a sheet's limits make of S and of the cells
-    pub width_bound : (book : Book) → Sound book → width T book ≤ 23041
-    width_bound book sound = let f = sound.few_stages in omega (arith, span_bound (standing book), stage_count book)
-
-    pub cells_needed_bound : (book : Book) → Sound book → cells_needed T book ≤ 391697
-    cells_needed_bound book sound = let f = sound.few_stages in mul-le (book.stages + 1) (width T book) 17 23041 (omega arith) (width_bound book sound)
-
 -- places
 module _ {C : Type 0} (T : Meaning C) (book : Book) where
   pub place_inside : (j t : ℕ) → j ≤ book.stages → t < width T book → place T book j t < cells_needed T book
@@ -127,34 +110,10 @@ module _ {C : Type 0} (T : Meaning C) (book : Book) where
     sym (place_column j t l) ∙ ap (λ (n : ℕ). n % width T book) e ∙ place_column i u m,
   )
 
--- costs
-module _ {C : Type 0} {K : Kind C} (L : Laws K) (T : Meaning C) where
-  pub cost_within_more : (tasks : List Task) (stage i : ℕ) (d : Task) (a : ℕ) → i < length tasks →
-      cost_within K T (stage_tasks (take (i + 1) tasks) stage) a
-      ≡ cond (stands_in stage (get_or tasks i d)) (joined K (cost_within K T (stage_tasks (take i tasks) stage) a) (option_map (λ choice. choice.cost) (cheapest K T (get_or tasks i d) a))) (cost_within K T (stage_tasks (take i tasks) stage) a)
-  cost_within_more tasks stage i d a l = ap (λ (ws : List Task). cost_within K T ws a) (stage_tasks_more tasks stage i d l) ∙ go (stands_in stage (get_or tasks i d))
-    where
-      before : List Task
-      before = stage_tasks (take i tasks) stage
-
-      go : (b : Bool) → cost_within K T (before ++ cond b (get_or tasks i d ∷ []) []) a ≡ cond b (joined K (cost_within K T before a) (option_map (λ (choice : Choice C). choice.cost) (cheapest K T (get_or tasks i d) a))) (cost_within K T before a)
-      go true = cost_within_push L T before (get_or tasks i d) a
-      go false = ap (λ (ws : List Task). cost_within K T ws a) (append-nil before)
-
 module _ {C : Type 0} (K : Kind C) (T : Meaning C) where
   pub cheaper_none : (o : Option C) → cheaper K o None ≡ o
   cheaper_none None = refl
   cheaper_none (Some c) = refl
-
-  -- what a stage offers at an allowance
-  pub offer_at : (tasks : List Task) (stages : List (List Task)) (t a : ℕ) → a ≤ t → is_time T tasks a ≡ true → offer K T tasks stages t a ≡ joined K (cost_within K T tasks a) (least_cost K T stages (t - a))
-  offer_at tasks stages t a l e = rw (le-leb a t l, e) refl
-
-  pub offer_late : (tasks : List Task) (stages : List (List Task)) (t a : ℕ) → t < a → offer K T tasks stages t a ≡ None
-  offer_late tasks stages t a l = rw (lt-leb a t l) refl
-
-  pub offer_untimed : (tasks : List Task) (stages : List (List Task)) (t a : ℕ) → is_time T tasks a ≡ false → offer K T tasks stages t a ≡ None
-  offer_untimed tasks stages t a e = rw (and_right (leb a t) _ e) refl
 
   pub cheapest_of_same : (f : ℕ → Option C) (n : ℕ) → f n ≡ None → cheapest_of K f (suc n) ≡ cheapest_of K f n
   cheapest_of_same f n e = ap (cheaper K (cheapest_of K f n)) e ∙ cheaper_none (cheapest_of K f n)
@@ -184,13 +143,6 @@ module _ {C : Type 0} (K : Kind C) (T : Meaning C) (book : Book) where
   pub cost_in_table : (rest : List (Cell C)) (j t : ℕ) (d : Cell C) → j ≤ book.stages → t < width T book → cost_in (get_or (table K T book ++ rest) (place T book j t) d) ≡ least_cost K T (drop j (standing book)) t
   cost_in_table rest j t d l m = ap cost_in (cell_in_table rest j t d l m) ∙ cost_in_cell K (least_cost K T (drop j (standing book)) t)
 
-  -- the first row stands first
-  pub place_first : (t : ℕ) → place T book 0 t ≡ t
-  place_first t = omega (arith, zero-mul (width T book))
-
-  pub cost_in_first_row : (rest : List (Cell C)) (t : ℕ) (d : Cell C) → t < width T book → cost_in (get_or (table K T book ++ rest) t d) ≡ least_cost K T (standing book) t
-  cost_in_first_row rest t d l = ap (λ (i : ℕ). cost_in (get_or (table K T book ++ rest) i d)) (sym (place_first t)) ∙ cost_in_table rest 0 t d zero-le l
-
   -- the first allowance list, stage by stage
   pub first_list_step : (j t : ℕ) (spent cost : C) → j < book.stages →
       let tasks = stage_tasks book.tasks j in
@@ -200,23 +152,6 @@ module _ {C : Type 0} (K : Kind C) (T : Meaning C) (book : Book) where
 
   pub first_list_end : (t : ℕ) (spent cost : C) → first_list K T (drop book.stages (standing book)) t spent cost ≡ []
   first_list_end t spent cost = ap (λ (stages : List (List Task)). first_list K T stages t spent cost) (stages_end book)
-
--- how many points a scan has found
-module _ {C : Type 0} (K : Kind C) (costs : ℕ → Option C) where
-  pub point_at_one : (t : ℕ) (o : Option C) → length (point_at K costs t o) ≤ 1
-  point_at_one t None = zero-le
-  point_at_one t (Some c) = elim (drops K costs t c) as (λ b. length (cond {A = List (Point C)} b (point t c ∷ []) []) ≤ 1) [ true ↦ le_refl 1 | false ↦ zero-le ]
-
-  pub drops_count : (n : ℕ) → length (drops_below K costs n) ≤ n
-  drops_count zero = zero-le
-  drops_count (suc n) = rw length-append (omega (arith, drops_count n, point_at_one n (costs n)))
-
-  pub drops_grow : (n k : ℕ) → length (drops_below K costs n) ≤ length (drops_below K costs (k + n))
-  drops_grow n zero = let e : 0 + n ≡ n = omega arith in subst (λ (m : ℕ). length (drops_below K costs n) ≤ length (drops_below K costs m)) (sym e) (le_refl _)
-  drops_grow n (suc k) =
-      let e : suc k + n ≡ suc (k + n) = omega arith in
-      let h = drops_grow n k in
-      subst (λ (m : ℕ). length (drops_below K costs n) ≤ length (drops_below K costs m)) (sym e) (rw length-append (omega arith))
 
 -- the first minute that passes
 module _ (test : ℕ → Bool) where
@@ -229,10 +164,6 @@ module _ (test : ℕ → Bool) where
       go ih false e (inl g) = ih (omega arith)
       go ih true e (inr g) = omega arith
       go ih false e (inr g) = let i : u ≡ a = omega arith in absurd (both_ways _ e (subst (λ (v : ℕ). test v ≡ true) i (h (omega arith))))
-
-  pub first_from_bound : (a n : ℕ) → first_from test a n ≤ a + n
-  first_from_bound a zero = omega arith
-  first_from_bound a (suc n) = elim (test a) as (λ b. cond b a (first_from test (a + 1) n) ≤ a + suc n) [ true ↦ omega arith | false ↦ omega (arith, first_from_bound (a + 1) n) ]
 
   -- found at u, or none before n
   pub first_from_found : (n u : ℕ) → u ≤ n → test u ≡ true → ((v : ℕ) → v < u → test v ≡ false) → first_from test 0 n ≡ u

@@ -10,13 +10,13 @@ use Rattle.tariffs.specs.Meaning.{Meaning, Ranged}
 use Rattle.tariffs.specs.declared.quote.Quote.{Quote}
 use Rattle.sheets.specs.Book.{Book}
 use Rattle.sheets.specs.History.{Sound, book_after}
-use Rattle.sheets.specs.Tasks.{SoundTask}
+use Rattle.sheets.specs.Tasks.{SoundTask, stands_in}
 use Rattle.sheets.specs.declared.task.Task.{Task}
 use Rattle.sheets.proofs.Histories.{book_sound}
 use Rattle.model.specs.declared.choice.Choice.{Choice}
 use Rattle.model.specs.declared.point.Point.{Point}
 use Rattle.model.specs.Lists.{In, here, later, Paired, total}
-use Rattle.model.specs.Assignment.{stands_in, stage_tasks, standing, Quoted, IsAssignment, charge_of, stage_time, stage_cost, length_of, cost_of, pair_of, pairs, HasPair}
+use Rattle.model.specs.Assignment.{stage_tasks, standing, Quoted, IsAssignment, charge_of, stage_time, stage_cost, length_of, cost_of, pair_of, pairs, HasPair}
 use Rattle.model.proofs.Shares.{bought_assigns, bought_affords, shares_of}
 use Rattle.model.specs.Allowance.{cheapest, cost_within, IsCheapest}
 use Rattle.model.specs.Limit.{IsBudget, IsDeadline}
@@ -32,12 +32,12 @@ use Rattle.model.proofs.Unquoted.{all_in}
 
 -- look-ups
 nth_map : {A B : Type 0} (f : A → B) (xs : List A) (n : ℕ) (x : A) → slice_get xs n ≡ Some x → slice_get (map f xs) n ≡ Some (f x)
-nth_map f [] n x e = let z : ◌≡◌ {A = ℕ} 0 1 = cc in absurd (omega arith)
+nth_map f [] n x e = cc
 nth_map f (y ∷ ys) zero x e = let s : y ≡ x = cc in ap (λ z. Some (f z)) s
 nth_map f (y ∷ ys) (suc n) x e = nth_map f ys n x e
 
 nth_in : {A : Type 0} (xs : List A) (n : ℕ) (x : A) → slice_get xs n ≡ Some x → In x xs
-nth_in [] n x e = let z : ◌≡◌ {A = ℕ} 0 1 = cc in absurd (omega arith)
+nth_in [] n x e = cc
 nth_in (y ∷ ys) zero x e = here (cc)
 nth_in (y ∷ ys) (suc n) x e = later (nth_in ys n x e)
 
@@ -64,15 +64,15 @@ module _ {C : Type 0} {K : Kind C} (L : Laws K) (T : Meaning C) where
 
   list_length : (stages : List (List Task)) (l : List ℕ) (c : C) → list_cost K T stages l ≡ Some c → length l ≡ length stages
   list_length [] [] c e = refl
-  list_length [] (a ∷ l) c e = let z : ◌≡◌ {A = ℕ} 0 1 = cc in absurd (omega arith)
-  list_length (tasks ∷ stages) [] c e = let z : ◌≡◌ {A = ℕ} 0 1 = cc in absurd (omega arith)
+  list_length [] (a ∷ l) c e = cc
+  list_length (tasks ∷ stages) [] c e = cc
   list_length (tasks ∷ stages) (a ∷ l) c e = let r = joined_parts L (cost_within K T tasks a) (list_cost K T stages l) c e in ap suc (list_length stages l r.1 r.3)
 
   chosen_cost : (task : Task) (a : ℕ) (x : C) → option_map (λ (choice : Choice C). choice.cost) (cheapest K T task a) ≡ Some x → (choice : Choice C) × (cheapest K T task a ≡ Some choice) × (choice.cost ≡ x)
   chosen_cost task a x e = go (cheapest K T task a) e
     where
       go : (o : Option (Choice C)) → option_map (λ (choice : Choice C). choice.cost) o ≡ Some x → (choice : Choice C) × (o ≡ Some choice) × (choice.cost ≡ x)
-      go None h = let z : ◌≡◌ {A = ℕ} 0 1 = cc in absurd (omega arith)
+      go None h = cc
       go (Some choice) h = (choice, refl, (cc))
 
   -- a task of a stage that has a cost within the allowance has a choice
@@ -88,7 +88,7 @@ module _ {C : Type 0} {K : Kind C} (L : Laws K) (T : Meaning C) where
 
   stage_cost_some : (stages : List (List Task)) (l : List ℕ) (c : C) → list_cost K T stages l ≡ Some c → (j : ℕ) → j < length stages → (x : C) × (cost_within K T (get_or stages j []) (get_or l j 0) ≡ Some x)
   stage_cost_some [] l c e j h = absurd (omega arith)
-  stage_cost_some (tasks ∷ stages) [] c e j h = let z : ◌≡◌ {A = ℕ} 0 1 = cc in absurd (omega arith)
+  stage_cost_some (tasks ∷ stages) [] c e j h = cc
   stage_cost_some (tasks ∷ stages) (a ∷ l) c e zero h = let r = joined_parts L (cost_within K T tasks a) (list_cost K T stages l) c e in (r.0, r.2)
   stage_cost_some (tasks ∷ stages) (a ∷ l) c e (suc j) h = let r = joined_parts L (cost_within K T tasks a) (list_cost K T stages l) c e in stage_cost_some stages l r.1 r.3 j (omega arith)
 
@@ -106,8 +106,8 @@ module _ {C : Type 0} {K : Kind C} (L : Laws K) (T : Meaning C) where
 
   shares_of_cost : (stages : List (List Task)) (l : List ℕ) (c : C) → list_cost K T stages l ≡ Some c → (shares : List C) × WithinShares K T stages shares l × (join_all K shares ≡ c)
   shares_of_cost [] [] c e = ([], tt, (cc))
-  shares_of_cost [] (a ∷ l) c e = let z : ◌≡◌ {A = ℕ} 0 1 = cc in absurd (omega arith)
-  shares_of_cost (tasks ∷ stages) [] c e = let z : ◌≡◌ {A = ℕ} 0 1 = cc in absurd (omega arith)
+  shares_of_cost [] (a ∷ l) c e = cc
+  shares_of_cost (tasks ∷ stages) [] c e = cc
   shares_of_cost (tasks ∷ stages) (a ∷ l) c e =
       let r = joined_parts L (cost_within K T tasks a) (list_cost K T stages l) c e in
       let s = shares_of_cost stages l r.1 r.3 in
@@ -138,8 +138,8 @@ module _ {C : Type 0} {K : Kind C} (L : Laws K) (T : Meaning C) where
       where
         go : (l : List ℕ) → list_cost K T [] l ≡ Some c → K.neutral ≡ c
         go [] h = cc
-        go (a ∷ l') h = let z : ◌≡◌ {A = ℕ} 0 1 = cc in absurd (omega arith)
-    assigned (tasks ∷ stages) [] c e = let z : ◌≡◌ {A = ℕ} 0 1 = cc in absurd (omega arith)
+        go (a ∷ l') h = cc
+    assigned (tasks ∷ stages) [] c e = cc
     assigned (tasks ∷ stages) (a ∷ l) c e =
         let r = joined_parts L (cost_within K T tasks a) (list_cost K T stages l) c e in
         let s = stage_assigned tasks a r.0 r.2 in

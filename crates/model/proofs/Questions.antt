@@ -57,19 +57,19 @@ module _ {C : Type 0} (K : Kind C) (T : Meaning C) (book : Book) where
       elim (counted few short) as (λ _. List (Point C)) [ Ok n ↦ front K T book ++ drop n points | Err why ↦ points ] ≡ points
   front_refused points true short refused e = refl
   front_refused points false true refused e = refl
-  front_refused points false false refused e = let z : ◌≡◌ {A = ℕ} 0 1 = cc in absurd (omega arith)
+  front_refused points false false refused e = cc
 
   front_few : (cells : List (Cell C)) (few short : Bool) → counted few short ≡ Err (plain 7) → cond few cells (filled K T book cells) ≡ cells
   front_few cells true short e = refl
   front_few cells false true e = let r : plain 8 ≡ plain 7 = cc in apart 8 7 r (λ z. omega arith)
-  front_few cells false false e = let z : ◌≡◌ {A = ℕ} 0 1 = cc in absurd (omega arith)
+  front_few cells false false e = cc
 
   front_short : (cells : List (Cell C)) (few short : Bool) → counted few short ≡ Err (plain 8) → cond few cells (filled K T book cells) ≡ filled K T book cells
   front_short cells true short e = let r : plain 7 ≡ plain 8 = cc in apart 7 8 r (λ z. omega arith)
   front_short cells false short e = refl
 
   bytes_refused : (bytes : List ℕ) (answer : Answer (Point C)) (refused : Refused) → answer ≡ Err refused → limit_bytes K T book answer bytes ≡ bytes
-  bytes_refused bytes (Ok p) refused e = let z : ◌≡◌ {A = ℕ} 0 1 = cc in absurd (omega arith)
+  bytes_refused bytes (Ok p) refused e = cc
   bytes_refused bytes (Err why) refused e = refl
 
   abbrev limited : Bool → Bool → Option ℕ → Option (Point C) → Answer (Point C)
@@ -81,7 +81,7 @@ module _ {C : Type 0} (K : Kind C) (T : Meaning C) (book : Book) where
   limit_early cells false true lowest found refused e l = refl
   limit_early cells false false (Some n) found refused e l = refl
   limit_early cells false false None None refused e l = let r : plain 10 ≡ refused = cc in let z : ◌≡◌ {A = ℕ} 10 refused.number = ap (λ (x : Refused). x.number) r in absurd (omega arith)
-  limit_early cells false false None (Some p) refused e l = let z : ◌≡◌ {A = ℕ} 0 1 = cc in absurd (omega arith)
+  limit_early cells false false None (Some p) refused e l = cc
 
   limit_late : (cells : List (Cell C)) (few short : Bool) (lowest : Option ℕ) (found : Option (Point C)) → limited few short lowest found ≡ Err (plain 10) →
       cond (few || (short || is_some lowest)) cells (filled K T book cells) ≡ filled K T book cells

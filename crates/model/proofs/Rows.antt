@@ -110,7 +110,7 @@ module _ {C : Type 0} {K : Kind C} (L : Laws K) (T : Meaning C) (F : Ranged T) (
           let r = of_kept_by (λ p. leb p.length d) (pairs K T s) k.0 in
           let q = cost_of_pair m d r.0 (leb-true _ _ r.1) in
           let f = q.1 in
-          let z : ◌≡◌ {A = ℕ} 0 1 = cc in absurd (omega arith)
+          cc
 
   -- the front: the rows that are cheaper than all before
   abbrev pub Drops : Point C → Type 0

@@ -104,7 +104,7 @@ module _ {C : Type 0} {K : Kind C} (L : Laws K) (T : Meaning C) (F : Ranged T) (
 
       go : (o : Option (Point C)) → FirstAt b n o → (v : Option C) → least_cost K T s n ≡ v → FirstAt b (suc n) (or_here K b n v o)
       go (Some p) h v e = (omega (arith, h.0), h.1, h.2, h.3)
-      go None h None e = none h (λ x i. let z : ◌≡◌ {A = ℕ} 0 1 = cc in absurd (omega arith))
+      go None h None e = none h (λ x i. cc)
       go None h (Some c) e = pick (K.at_most c b) refl
         where
           pick : (x : Bool) → K.at_most c b ≡ x → FirstAt b (suc n) (cond x (Some (record { length = n; cost = c })) None)

@@ -26,7 +26,7 @@ module _ {A : Type 0} (test : A → Bool) where
   Positioned xs (Some k) = Passes xs k × ((m : ℕ) → m < k → Passes xs m → ⊥)
 
   positioned : (xs : List A) → Positioned xs (position test xs)
-  positioned [] = λ n p. let e = p.1 in let z : ◌≡◌ {A = ℕ} 0 1 = cc in omega arith
+  positioned [] = λ n p. let e = p.1 in cc
   positioned (x ∷ xs) = go (test x) refl (position test xs) (positioned xs)
     where
       fails : test x ≡ false → Passes (x ∷ xs) 0 → ⊥
@@ -104,7 +104,7 @@ module _ {C : Type 0} (T : Meaning C) where
     lowest_is n = go (lowest_unquoted T book) (positioned (unquoted T) book.tasks)
       where
         go : (o : Option ℕ) → Positioned (unquoted T) book.tasks o → IsLowestUnquoted T book n ↔ (o ≡ Some n)
-        go None h = ((λ l. absurd (h n (of_unquoted n l.0))), λ e. let z : ◌≡◌ {A = ℕ} 0 1 = cc in absurd (omega arith))
+        go None h = ((λ l. absurd (h n (of_unquoted n l.0))), λ e. cc)
         go (Some k) h = (
           (λ l. elim (cases_order k n) [
             | inl e ↦ ap Some e
@@ -118,4 +118,4 @@ module _ {C : Type 0} (T : Meaning C) where
       where
         go : (o : Option ℕ) → Positioned (unquoted T) book.tasks o → ((n : ℕ) → Unquoted T book n → ⊥) ↔ (o ≡ None)
         go None h = ((λ _. refl), λ _ n u. h n (of_unquoted n u))
-        go (Some k) h = ((λ a. absurd (a k (to_unquoted k h.0))), λ e. let z : ◌≡◌ {A = ℕ} 0 1 = cc in absurd (omega arith))
+        go (Some k) h = ((λ a. absurd (a k (to_unquoted k h.0))), λ e. cc)

@@ -1,17 +1,14 @@
 -- Standing tasks, their assignments, and the lengths and costs of these
-use Rattle.std.specs.Prelude.{◌≡◌, ℕ, ◌+◌, max, Bool, not, ◌&&◌, ◌↔◌, List, [], ◌∷◌, map, is_some, Some, None, filter, Option, ◌==◌}
+use Rattle.std.specs.Prelude.{◌≡◌, ℕ, ◌+◌, max, ◌↔◌, List, [], ◌∷◌, map, is_some, Some, None, filter, Option}
 use Rattle.std.specs.List.{range_with_len}
 use Rattle.costs.specs.Kind.{Kind}
 use Rattle.tariffs.specs.Meaning.{Meaning, Ranged}
 use Rattle.tariffs.specs.declared.quote.Quote.{Quote}
+use Rattle.sheets.specs.Tasks.{stands_in}
 use Rattle.sheets.specs.Book.{Book}
 use Rattle.sheets.specs.declared.task.Task.{Task}
 use Rattle.model.specs.declared.point.Point.{Point}
 use Rattle.model.specs.Lists.{In, Paired, selections}
-
--- the task stands, and in this stage
-abbrev pub stands_in : ℕ → Task → Bool
-stands_in stage task = not task.struck && task.stage == stage
 
 -- the standing tasks of a stage, by number
 abbrev pub stage_tasks : List Task → ℕ → List Task

@@ -12,7 +12,8 @@ use Rattle.tariffs.specs.declared.quote.Quote.{Quote}
 use Rattle.model.specs.declared.choice.Choice.{Choice}
 use Rattle.model.specs.declared.point.Point.{Point}
 use Rattle.model.specs.Lists.{total, Paired}
-use Rattle.model.specs.Assignment.{standing, stands_in, quote_of, IsAssignment, length_of, charge_of, cost_of, pair_of}
+use Rattle.sheets.specs.Tasks.{stands_in}
+use Rattle.model.specs.Assignment.{standing, quote_of, IsAssignment, length_of, charge_of, cost_of, pair_of}
 use Rattle.model.specs.Allowance.{joined, cheapest, cost_within, IsCheapest}
 use Rattle.model.specs.Cell.{least_cost}
 use Rattle.model.specs.Limit.{budget_result, deadline_result}

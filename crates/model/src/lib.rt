@@ -4,11 +4,13 @@
 mod cell;
 mod choice;
 mod point;
+mod priced;
 mod theorems;
 
 pub use cell::Cell;
 pub use choice::Choice;
 pub use point::Point;
+pub use priced::PricedSheet;
 pub use theorems::{
     assignments_are_all, cells_stand_at_their_places, cheapest_is_cheapest,
     enough_memory_is_answered, equal_fronts_mean_same_bargains, front_is_where_costs_drop,

@@ -1,3 +1,2 @@
-pub mod Masks
 pub mod OnGroups
 pub mod OnSpellings

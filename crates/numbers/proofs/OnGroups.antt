@@ -1,11 +1,8 @@
 -- The groups of a number, from one byte to the next
 use Rattle.std.proofs.Common.{◌≡◌, ℕ, zero, suc, ◌+◌, ◌-◌, ◌*◌, ◌/◌, ◌%◌, ◌^◌, ◌<◌, ◌≤◌, true, false, cond, ltb, ◌⊎◌, List, [], ◌∷◌, ◌++◌, length, sym, refl, ap, ◌∙◌, inl, inr, arith, pow_mono}
 use Rattle.std.proofs.lemmas.Nat.{pow_below, pow-add}
-use Rattle.std.proofs.lemmas.Bool.{lt-ltb, le-ltb, le-leb, or_left, or_right, and_from}
-use Rattle.numbers.specs.declared.groups.Fault.{Fault}
-use Rattle.numbers.specs.declared.groups.Fault.TheVariants.{EndsEarly, Misspelt}
-use Rattle.numbers.specs.Fault.{Faulty}
-use Rattle.numbers.specs.Number.{groups, limit, ends_early, misspelt, zero_first}
+use Rattle.std.proofs.lemmas.Bool.{lt-ltb, le-ltb}
+use Rattle.numbers.specs.Number.{groups, limit}
 
 pub one_group : (more n : ℕ) → (more ≡ 0) ⊎ (n < 128) → groups more n ≡ n ∷ []
 one_group zero n h = refl
@@ -47,27 +44,7 @@ module _ (bytes : List ℕ) (first : ℕ) (rest : List ℕ) (parted : bytes ≡ 
   last_group more few h =
       (limit_of_one more first few h, parted ∙ sym (ap (λ l. l ++ rest) (one_group more first (inr h))))
 
-  pub fifth_too_great : (more : ℕ) → more ≡ 0 → 15 < first → misspelt more bytes ≡ true
-  fifth_too_great zero e h = ap (misspelt 0) parted ∙ lt-ltb 15 first h
-  fifth_too_great (suc k) e h = absurd (omega arith)
-
   module _ (goes_on : 128 ≤ first) where
-    pub faulty_behind : (fault : Fault) (more : ℕ) → (more ≡ 0 → ⊥) → Faulty fault (more - 1) rest → Faulty fault more bytes
-    faulty_behind fault zero n f = absurd (n refl)
-    faulty_behind EndsEarly (suc k) n f = ap (ends_early (suc k)) parted ∙ and_from _ _ (le-leb 128 first goes_on) (rw (back k) at f)
-    faulty_behind Misspelt (suc k) n f =
-        ap (misspelt (suc k)) parted ∙ and_from _ _ (le-leb 128 first goes_on) (or_right _ _ (rw (back k) at f))
-
-    zero_group : (k : ℕ) (behind : List ℕ) → rest ≡ groups k 0 ++ behind → zero_first rest ≡ true
-    zero_group zero behind e = ap zero_first e
-    zero_group (suc k) behind e = ap zero_first e
-
-    pub ends_in_zero : (more high : ℕ) (behind : List ℕ) → (more ≡ 0 → ⊥) → high ≡ 0 → rest ≡ groups (more - 1) high ++ behind → misspelt more bytes ≡ true
-    ends_in_zero zero high behind n z e = absurd (n refl)
-    ends_in_zero (suc k) high behind n z e =
-        let zeros : rest ≡ groups k 0 ++ behind = rw (back k, z) at e in
-        ap (misspelt (suc k)) parted ∙ and_from _ _ (le-leb 128 first goes_on) (or_left _ _ (zero_group k behind zeros))
-
     pub further_group : (more high : ℕ) (behind : List ℕ) → (more ≡ 0 → ⊥) → first < 256 → 0 < high → (high < limit (more - 1)) × (rest ≡ groups (more - 1) high ++ behind) → (high * 128 + first % 128 < limit more) × (bytes ≡ groups more (high * 128 + first % 128) ++ behind)
     further_group more high behind n byte some found =
         let joined = high * 128 + first % 128 in

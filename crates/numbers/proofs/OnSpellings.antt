@@ -135,7 +135,7 @@ spelled_behind (suc more) (byte ∷ bytes) strung ended right =
         zeros (suc more) rest = refl
 
 not_refused : {A : Type 0} (applies : Bool) (number place : ℕ) (otherwise : Answer A) (found : A) → refused_at applies number place otherwise ≡ Ok found → (applies ≡ false) × (otherwise ≡ Ok found)
-not_refused true number place otherwise found e = let z : ◌≡◌ {A = ℕ} 0 1 = cc in absurd (omega arith)
+not_refused true number place otherwise found e = cc
 not_refused false number place otherwise found e = (refl, e)
 
 found_same : {A : Type 0} (a b : A) → ◌≡◌ {A = Answer A} (Ok a) (Ok b) → a ≡ b

@@ -9,6 +9,9 @@ const CONTINUES: u8 = 0x80;
 
 const GROUP: u8 = 0x7F;
 
+// Of the five bytes of the longest number all but one.
+pub(crate) const MORE_BYTES: u32 = 4;
+
 // The fifth byte has the four highest bits.
 const MAX_FIFTH: u8 = 0x0F;
 
@@ -45,14 +48,14 @@ fn joined(high: u32, byte: u8) -> u32
     requires { high < 2 ^ 25 }
     ensures { result ≡ high * 128 + byte % 128 }
 {
-    high << 7 | (byte & GROUP) as u32
+    high << 7 | u32::from(byte & GROUP)
 }
 
 // The byte of the lowest group, with more to follow.
 pub(crate) fn low_group(n: u32) -> u8
     ensures { result ≡ 128 + n % 128 }
 {
-    CONTINUES | (n & 0x7F) as u8
+    CONTINUES | (n & u32::from(GROUP)) as u8
 }
 
 // The number at the start of the bytes, in at most so many bytes more than one, and the bytes behind it.
@@ -60,23 +63,18 @@ pub(crate) fn take_groups(bytes: &[u8], more: u32) -> Result<(u32, &[u8]), Fault
     requires { more ≤ 4 }
     ensures { elim result [ Ok found ↦ (found.0 < limit more) × (bytes.now ≡ groups more found.0 ++ found.1.now) | Err fault ↦ Faulty fault more bytes.now ] }
 {
-    match bytes {
-        [] => Err(Fault::EndsEarly),
-        [first, rest @ ..] => {
-            if more == 0 {
-                if *first > MAX_FIFTH {
-                    return Err(Fault::Misspelt);
-                }
-                return Ok((*first as u32, rest));
-            }
-            if !continues(*first) {
-                return Ok((*first as u32, rest));
-            }
-            let (high, rest) = take_groups(rest, more - 1)?;
-            if high < LEAST_HIGH {
-                return Err(Fault::Misspelt);
-            }
-            Ok((joined(high, *first), rest))
-        }
+    let [first, rest @ ..] = bytes else {
+        return Err(Fault::EndsEarly);
+    };
+    if more == 0 && *first > MAX_FIFTH {
+        return Err(Fault::Misspelt);
     }
+    if more == 0 || !continues(*first) {
+        return Ok((u32::from(*first), rest));
+    }
+    let (high, rest) = take_groups(rest, more - 1)?;
+    if high < LEAST_HIGH {
+        return Err(Fault::Misspelt);
+    }
+    Ok((joined(high, *first), rest))
 }

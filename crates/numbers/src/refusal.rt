@@ -24,8 +24,7 @@ impl Refusal for NumberRefusal {
 
     fn carried(&self) -> Option<usize> {
         match self {
-            NumberRefusal::EndsEarly(place) => Some(*place),
-            NumberRefusal::Misspelt(place) => Some(*place),
+            NumberRefusal::EndsEarly(place) | NumberRefusal::Misspelt(place) => Some(*place),
         }
     }
 }

@@ -1,7 +1,7 @@
 -- The front, read off the first row of filled cells
 use Rattle.std.proofs.Common.{◌≡◌, ℕ, zero, suc, ◌<◌, ◌≤◌, Bool, true, false, cond, not, ltb, List, [], ◌∷◌, ◌++◌, length, drop, Some, None, Ok, Err, Option, refl, ap, ◌∙◌, ap₂, arith}
 use Rattle.std.proofs.lemmas.Bool.{cond-true, cond-false, lt-ltb, le-ltb}
-use Rattle.refusals.specs.Answer.{Answer, Refused, plain, refused_if}
+use Rattle.refusals.specs.Answer.{Answer, plain, refused_if}
 use Rattle.costs.specs.Kind.{Kind, Laws}
 use Rattle.tariffs.specs.Meaning.{Meaning, Ranged}
 use Rattle.sheets.specs.Book.{Book}
@@ -33,13 +33,8 @@ module _ {C : Type 0} (K : Kind C) where
       (drops_alike costs others n (λ t h. same t (omega arith)))
       (point_alike costs others n same (costs n) ∙ ap (point_at K others n) (same n (omega arith)))
 
--- which way a question on cells went, told by what filling answered
-pub few_from_refused : {A : Type 0} (few : Bool) (filled : A) (refused : Refused) → ◌≡◌ {A = Answer A} (Err refused) (refused_if few 7 (Ok filled)) → few ≡ true
-few_from_refused true filled refused e = refl
-few_from_refused false filled refused e = let z : ◌≡◌ {A = ℕ} 0 1 = cc in absurd (omega arith)
-
 pub enough_from_filled : {A : Type 0} (few : Bool) (filled given : A) → ◌≡◌ {A = Answer A} (Ok given) (refused_if few 7 (Ok filled)) → (few ≡ false) × (given ≡ filled)
-enough_from_filled true filled given e = let z : ◌≡◌ {A = ℕ} 0 1 = cc in absurd (omega arith)
+enough_from_filled true filled given e = cc
 enough_from_filled false filled given e = (refl, cc)
 
 module _ {C : Type 0} {K : Kind C} (laws : Laws K) (T : Meaning C) (ranged : Ranged T) (book : Book) where
@@ -49,15 +44,8 @@ module _ {C : Type 0} {K : Kind C} (laws : Laws K) (T : Meaning C) (ranged : Ran
       drops_alike K (row_costs K (layout_of T book) (filled K T book before) 0) (least_cost K T (standing book)) (width T book) (λ t h. cost_in_table K T book _ 0 t _ (omega arith) h)
       ∙ front_is_where_costs_drop laws T ranged (standing book)
 
--- the three ways in which the question `front` ends
+-- the ways in which the question `front` ends with cells enough
 module _ {C : Type 0} (K : Kind C) (T : Meaning C) (book : Book) (cells : List (Cell C)) (points : List (Point C)) where
-  module _ (few : few_cells T book cells ≡ true) where
-    pub front_refused_7 : front_answer K T book cells points ≡ Err (plain 7)
-    front_refused_7 = cond-true (few_cells T book cells) _ _ few
-
-    pub points_kept_7 : front_points K T book cells points ≡ points
-    points_kept_7 = ap (λ (a : Answer ℕ). elim a [ Ok n ↦ front K T book ++ drop n points | Err refused ↦ points ]) front_refused_7
-
   module _ (enough : few_cells T book cells ≡ false) where
     pub cells_filled : front_cells K T book cells ≡ filled K T book cells
     cells_filled = cond-false (few_cells T book cells) _ _ enough

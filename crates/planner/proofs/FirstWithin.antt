@@ -1,6 +1,6 @@
 -- The first minute with a cost at most a limit
-use Rattle.std.proofs.Common.{◌≡◌, ℕ, zero, suc, ◌+◌, ◌-◌, ◌<◌, ◌≤◌, true, false, Some, None, Option, refl, ap, ◌∙◌, subst, ap₂, add-one, arith}
-use Rattle.std.proofs.lemmas.Bool.{cond-true, cond-false}
+use Rattle.std.proofs.Common.{◌≡◌, ℕ, zero, suc, ◌+◌, ◌-◌, ◌<◌, ◌≤◌, true, Some, None, Option, refl, ap, ◌∙◌, subst, ap₂, arith}
+use Rattle.std.proofs.lemmas.Bool.{cond-true}
 use Rattle.costs.specs.Kind.{Kind}
 use Rattle.model.specs.declared.point.Point.{Point}
 use Rattle.model.specs.Scan.{point, or_here, first_below}
@@ -18,12 +18,6 @@ module _ {C : Type 0} (K : Kind C) (costs : ℕ → Option C) (limit : C) where
   first_here n cost m h none e low =
       first_stays (suc n) (point n cost) m (omega arith)
       (ap₂ (λ (o : Option C) (before : Option (Point C)). or_here K limit n o before) e none ∙ cond-true (K.at_most cost limit) _ _ low)
-
-  pub first_not_here : (n : ℕ) → first_below K costs limit n ≡ None → costs n ≡ None → first_below K costs limit (n + 1) ≡ None
-  first_not_here n none e = rw add-one (ap₂ (λ (o : Option C) (before : Option (Point C)). or_here K limit n o before) e none)
-
-  pub first_not_so_dear : (n : ℕ) (cost : C) → first_below K costs limit n ≡ None → costs n ≡ Some cost → K.at_most cost limit ≡ false → first_below K costs limit (n + 1) ≡ None
-  first_not_so_dear n cost none e high = rw add-one (ap₂ (λ (o : Option C) (before : Option (Point C)). or_here K limit n o before) e none ∙ cond-false (K.at_most cost limit) _ _ high)
 
 -- the first minute rests on the costs before the end
 pub first_alike : {C : Type 0} (K : Kind C) (limit : C) (costs others : ℕ → Option C) (n : ℕ) → ((t : ℕ) → t < n → costs t ≡ others t) → first_below K costs limit n ≡ first_below K others limit n

@@ -1,10 +1,16 @@
 -- The points of a row of costs, counted and written minute by minute
-use Rattle.std.proofs.Common.{◌≡◌, ℕ, zero, suc, ◌+◌, ◌-◌, ◌<◌, ◌≤◌, true, false, List, [], ◌∷◌, ◌++◌, length, take, drop, set, is_some, Some, None, Option, sym, refl, ap, ◌∙◌, subst, add-one, arith, length-append, length-set}
-use Rattle.std.proofs.lemmas.List.{append-nil, take_more_set, drop-set-lt, take-append-drop, drop-drop}
+use Rattle.std.proofs.Common.{◌≡◌, ℕ, zero, suc, ◌+◌, ◌-◌, ◌<◌, ◌≤◌, Bool, true, false, cond, List, [], ◌∷◌, ◌++◌, length, take, drop, set, Some, None, Option, sym, refl, ap, ◌∙◌, subst, ap₂, add-one, arith, length-append, length-set}
+use Rattle.std.proofs.lemmas.List.Elements.{filter_map-append}
+use Rattle.std.proofs.lemmas.List.{append-nil, take_more_set, drop-set-lt, drop-drop}
+use Rattle.std.specs.List.{slice_get, range_with_len, filter_map, cons_option}
 use Rattle.std.specs.Option.{option_to_list}
 use Rattle.costs.specs.Kind.{Kind}
 use Rattle.model.specs.declared.point.Point.{Point}
-use Rattle.model.specs.Scan.{point_at, drops_below}
+use Rattle.model.specs.Scan.{point, drops, point_at, drops_below}
+
+range_more : (a n m : ℕ) → a + n ≡ m → range_with_len a (suc n) ≡ range_with_len a n ++ m ∷ []
+range_more a zero m e = ap (λ k. k ∷ []) (let f : a ≡ m = omega arith in f)
+range_more a (suc n) m e = ap (λ ns. a ∷ ns) (range_more (a + 1) n m (omega arith))
 
 module _ {C : Type 0} (K : Kind C) (costs : ℕ → Option C) where
   -- one minute more, with a point there or none
@@ -14,13 +20,32 @@ module _ {C : Type 0} (K : Kind C) (costs : ℕ → Option C) where
   pub drops_none : (t : ℕ) (o : Option (Point C)) → o ≡ None → option_to_list o ≡ point_at K costs t (costs t) → drops_below K costs (t + 1) ≡ drops_below K costs t
   drops_none t o none e = drops_more t o e ∙ ap (λ u. drops_below K costs t ++ option_to_list u) none ∙ append-nil (drops_below K costs t)
 
-  pub drops_counted : (t : ℕ) (o : Option (Point C)) → is_some o ≡ true → option_to_list o ≡ point_at K costs t (costs t) → length (drops_below K costs (t + 1)) ≡ length (drops_below K costs t) + 1
-  drops_counted t None some e = let z : ◌≡◌ {A = ℕ} 0 1 = cc in absurd (omega arith)
-  drops_counted t (Some p) some e = ap length (drops_more t (Some p) e) ∙ length-append (drops_below K costs t) (p ∷ [])
+  -- the point at a minute, if any
+  abbrev pub dropped : ℕ → Option (Point C)
+  dropped t = slice_get (point_at K costs t (costs t)) 0
 
-  pub drops_uncounted : (t : ℕ) (o : Option (Point C)) → is_some o ≡ false → option_to_list o ≡ point_at K costs t (costs t) → length (drops_below K costs (t + 1)) ≡ length (drops_below K costs t)
-  drops_uncounted t None none e = ap length (drops_none t None refl e)
-  drops_uncounted t (Some p) none e = let z : ◌≡◌ {A = ℕ} 0 1 = cc in absurd (omega arith)
+  pub dropped_told : (t : ℕ) (o : Option (Point C)) → option_to_list o ≡ point_at K costs t (costs t) → o ≡ dropped t
+  dropped_told t None e = ap (λ ps. slice_get ps 0) e
+  dropped_told t (Some p) e = ap (λ ps. slice_get ps 0) e
+
+  -- all of them, minute by minute
+  pub drops_told : (n : ℕ) → filter_map dropped (range_with_len 0 n) ≡ drops_below K costs n
+  drops_told zero = refl
+  drops_told (suc n) =
+      ap (filter_map dropped) (range_more 0 n n (omega arith))
+      ∙ filter_map-append dropped (range_with_len 0 n) (n ∷ [])
+      ∙ ap₂ (λ (ps qs : List (Point C)). ps ++ qs) (drops_told n) (at_most_one (costs n))
+    where
+      either : (cost : C) (b : Bool) → cons_option (slice_get (cond b (point n cost ∷ []) []) 0) [] ≡ cond b (point n cost ∷ []) []
+      either cost true = refl
+      either cost false = refl
+
+      at_most_one : (o : Option C) → cons_option (slice_get (point_at K costs n o) 0) [] ≡ point_at K costs n o
+      at_most_one None = refl
+      at_most_one (Some cost) = either cost (drops K costs n cost)
+
+  pub drops_counted : (t : ℕ) (p : Point C) → option_to_list (Some p) ≡ point_at K costs t (costs t) → length (drops_below K costs (t + 1)) ≡ length (drops_below K costs t) + 1
+  drops_counted t p e = ap length (drops_more t (Some p) e) ∙ length-append (drops_below K costs t) (p ∷ [])
 
   -- more minutes never have fewer points
   pub drops_rise : (t n : ℕ) → t ≤ n → length (drops_below K costs t) ≤ length (drops_below K costs n)
@@ -41,9 +66,6 @@ module _ {C : Type 0} (K : Kind C) (costs : ℕ → Option C) where
     pub long : length points ≡ length was
     pub few : count ≤ t
 
-  pub written_none : (was : List (Point C)) → Written was was 0 0
-  written_none was = record { counted = refl; front = refl; back = refl; long = refl; few = omega arith }
-
   pub written_more : (was points : List (Point C)) (t count : ℕ) (p : Point C) → Written was points t count → count < length points → option_to_list (Some p) ≡ point_at K costs t (costs t) → Written was (set points count p) (t + 1) (count + 1)
   written_more was points t count p w room e =
       let more = drops_more t (Some p) e in
@@ -60,7 +82,7 @@ module _ {C : Type 0} (K : Kind C) (costs : ℕ → Option C) where
   -- memory with room for all points has room for the next
   pub room_behind : (was points : List (Point C)) (t count n : ℕ) (p : Point C) → Written was points t count → t < n → length (drops_below K costs n) ≤ length was → option_to_list (Some p) ≡ point_at K costs t (costs t) → count < length points
   room_behind was points t count n p w below fits e =
-      let more = drops_counted t (Some p) refl e in
+      let more = drops_counted t p e in
       let rise = drops_rise (t + 1) n (omega arith) in
       let c = w.counted in
       let l = w.long in
@@ -76,8 +98,3 @@ module _ {C : Type 0} (K : Kind C) (costs : ℕ → Option C) where
         long = w.long;
         few = let f = w.few in omega arith;
       }
-
-  pub written_all : (was points : List (Point C)) (t count : ℕ) → Written was points t count → points ≡ drops_below K costs t ++ drop (length (drops_below K costs t)) was
-  written_all was points t count w =
-      sym (take-append-drop count points) ∙ ap (λ ps. ps ++ drop count points) w.front ∙ ap (λ ps. drops_below K costs t ++ ps) w.back
-      ∙ ap (λ n. drops_below K costs t ++ drop n was) w.counted

@@ -1,5 +1,6 @@
 -- A task that no machine quotes
-use Rattle.std.proofs.Common.{◌≡◌, ℕ, true, false, List, [], ◌∷◌, refl, arith}
+use Rattle.std.proofs.Common.{◌≡◌, ℕ, Bool, true, false, not, List, [], ◌∷◌, Some, None, Option, sym, refl, arith}
+use Rattle.std.specs.Option.{MatchOption, is_some}
 use Rattle.costs.specs.Kind.{Kind}
 use Rattle.tariffs.specs.Meaning.{Meaning, Ranged}
 use Rattle.sheets.specs.declared.task.Task.{Task}
@@ -25,3 +26,10 @@ module _ {C : Type 0} (T : Meaning C) (ranged : Ranged T) (task : Task) where
       go : (machines : List ℕ) → In choice.machine machines → is_empty machines ≡ false
       go [] i = elim i [ ]
       go (m ∷ ms) i = refl
+
+  -- a task without a cheapest quote within a day has none
+  pub quoting_empty : (K : Kind C) (cheapest : Option (Choice C)) → MatchOption cheapest (NoneWithin T task 1440) (IsCheapest K T task 1440) → (none : Bool) → is_some cheapest ≡ not none → none ≡ is_empty (quoting T task)
+  quoting_empty K None within true e = sym (none_quoting within)
+  quoting_empty K None within false e = cc
+  quoting_empty K (Some choice) within true e = cc
+  quoting_empty K (Some choice) within false e = sym (some_quoting K 1440 choice within)

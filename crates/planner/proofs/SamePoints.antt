@@ -1,6 +1,6 @@
 -- Points compared one by one
-use Rattle.std.proofs.Common.{◌≡◌, ℕ, ◌+◌, ◌<◌, ◌≤◌, Bool, true, false, ◌&&◌, List, [], ◌∷◌, length, get_or, drop, sym, refl, ap, ◌∙◌, subst, ap₂, ⊎_elim, arith}
-use Rattle.std.proofs.lemmas.List.{drop_more, drop_all}
+use Rattle.std.proofs.Common.{◌≡◌, Bool, true, false, ◌&&◌, List, [], ◌∷◌, length, refl, ap, subst, ap₂, ⊎_elim, arith}
+use Rattle.std.specs.List.{list_all, zip}
 use Rattle.std.proofs.lemmas.Bool.{and_parts, eqb-true, eq-eqb}
 use Rattle.costs.specs.Kind.{Kind, Laws}
 use Rattle.model.specs.declared.point.Point.{Point}
@@ -18,22 +18,12 @@ module _ {C : Type 0} (K : Kind C) where
       go true h = h
       go false h = refl
 
-  -- the points at a place
-  module _ (ps qs : List (Point C)) (i : ℕ) (p q : Point C) (h : i < length ps) (k : i < length qs) (mine : p ≡ get_or ps i p) (yours : q ≡ get_or qs i q) where
-    same_step : same_points K (drop i ps) (drop i qs) ≡ (same_point K p q && same_points K (drop (i + 1) ps) (drop (i + 1) qs))
-    same_step =
-        ap₂ (same_points K)
-        (drop_more ps i p h ∙ ap (λ x. x ∷ drop (i + 1) ps) (sym mine))
-        (drop_more qs i q k ∙ ap (λ x. x ∷ drop (i + 1) qs) (sym yours))
-
-    pub same_more : same_point K p q ≡ true → same_points K (drop i ps) (drop i qs) ≡ same_points K (drop (i + 1) ps) (drop (i + 1) qs)
-    same_more e = same_step ∙ ap (λ b. b && same_points K (drop (i + 1) ps) (drop (i + 1) qs)) e
-
-    pub same_not : same_point K p q ≡ false → same_points K (drop i ps) (drop i qs) ≡ false
-    same_not e = same_step ∙ ap (λ b. b && same_points K (drop (i + 1) ps) (drop (i + 1) qs)) e
-
-  pub same_all : (ps qs : List (Point C)) (i : ℕ) → length ps ≤ i → length qs ≤ i → same_points K (drop i ps) (drop i qs) ≡ true
-  same_all ps qs i h k = ap₂ (same_points K) (drop_all i ps h) (drop_all i qs k)
+  -- lists as long as one another are compared pair by pair
+  pub same_zipped : (ps qs : List (Point C)) → length ps ≡ length qs → list_all (λ (pair : Point C × Point C). same_point K pair.0 pair.1) (zip ps qs) ≡ same_points K ps qs
+  same_zipped [] [] e = refl
+  same_zipped [] (q ∷ qs) e = absurd (omega arith)
+  same_zipped (p ∷ ps) [] e = absurd (omega arith)
+  same_zipped (p ∷ ps) (q ∷ qs) e = ap (λ b. same_point K p q && b) (same_zipped ps qs (omega arith))
 
 module _ {C : Type 0} {K : Kind C} (laws : Laws K) where
   refl_cost : (c : C) → K.at_most c c ≡ true
@@ -50,8 +40,8 @@ module _ {C : Type 0} {K : Kind C} (laws : Laws K) where
   -- the comparison says whether the lists are equal
   pub same_from_test : (ps qs : List (Point C)) → same_points K ps qs ≡ true → ps ≡ qs
   same_from_test [] [] e = refl
-  same_from_test [] (q ∷ qs) e = let z : ◌≡◌ {A = ℕ} 0 1 = cc in absurd (omega arith)
-  same_from_test (p ∷ ps) [] e = let z : ◌≡◌ {A = ℕ} 0 1 = cc in absurd (omega arith)
+  same_from_test [] (q ∷ qs) e = cc
+  same_from_test (p ∷ ps) [] e = cc
   same_from_test (p ∷ ps) (q ∷ qs) e = let parts = and_parts _ _ e in ap₂ (λ x xs. x ∷ xs) (one_point p q parts.0) (same_from_test ps qs parts.1)
 
   same_self : (ps : List (Point C)) → same_points K ps ps ≡ true

@@ -62,9 +62,9 @@ module _ {C : Type 0} {K : Kind C} (laws : Laws K) (T : Meaning C) (ranged : Ran
 -- what stands after the check has let a question through
 pub let_through : (few short : Bool) (o : Option ℕ) → ◌≡◌ {A = Answer (Unit {0})} (Ok tt) (refused_if few 7 (refused_if short 8 (elim o [ Some task ↦ Err (carrying 9 task) | None ↦ Ok tt ])))
     → (few ≡ false) × (short ≡ false) × (o ≡ None)
-let_through true short o e = let z : ◌≡◌ {A = ℕ} 0 1 = cc in absurd (omega arith)
-let_through false true o e = let z : ◌≡◌ {A = ℕ} 0 1 = cc in absurd (omega arith)
-let_through false false (Some task) e = let z : ◌≡◌ {A = ℕ} 0 1 = cc in absurd (omega arith)
+let_through true short o e = cc
+let_through false true o e = cc
+let_through false false (Some task) e = cc
 let_through false false None e = (refl, refl, refl)
 
 module _ {C : Type 0} (K : Kind C) (T : Meaning C) (book : Book) (cells : List (Cell C)) (bytes : List ℕ) (limit : Limit C)

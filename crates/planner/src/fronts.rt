@@ -8,32 +8,29 @@ ghost use Rattle.planner.specs.Refusal.{question_told};
 
 use crate::QuestionRefusal;
 use crate::scan::{count_points, write_points};
-use cells::fill;
+use cells::{CellRows, fill};
 use costs::Cost;
-use model::{Cell, Point};
-use sheets::{Call, Sheet};
+use model::{Cell, Point, PricedSheet};
+use sheets::Call;
 use tariffs::Tariff;
 
 // Writes the front of the sheet under the tariff to the points, and returns how many there are.
 pub fn front<T: Tariff>(
-    sheet: &Sheet,
-    tariff: &T,
+    priced: &PricedSheet<T>,
     cells: &mut [Cell<T::Cost>],
     points: &mut [Point<T::Cost>],
 ) -> Result<usize, QuestionRefusal>
-    ensures answer { answer_of question_told result ≡ front_answer T.Cost.Cost.kind (T.Tariff.meaning tariff.now) (book sheet.now) cells.old points.old }
-    ensures cells { cells.new ≡ front_cells T.Cost.Cost.kind (T.Tariff.meaning tariff.now) (book sheet.now) cells.old }
-    ensures points { points.new ≡ front_points T.Cost.Cost.kind (T.Tariff.meaning tariff.now) (book sheet.now) cells.old points.old }
-    ensures known { KnownFurther sheet.now Call.Front sheet.now }
+    ensures answer { answer_of question_told result ≡ front_answer T.Cost.Cost.kind (T.Tariff.meaning priced.now.tariff.now) (book priced.now.sheet.now) cells.old points.old }
+    ensures cells { cells.new ≡ front_cells T.Cost.Cost.kind (T.Tariff.meaning priced.now.tariff.now) (book priced.now.sheet.now) cells.old }
+    ensures points { points.new ≡ front_points T.Cost.Cost.kind (T.Tariff.meaning priced.now.tariff.now) (book priced.now.sheet.now) cells.old points.old }
+    ensures known { KnownFurther priced.now.sheet.now Call.Front priced.now.sheet.now }
 {
-    let layout = match fill(sheet, tariff, cells) {
-        Ok(layout) => layout,
-        Err(_) => return Err(QuestionRefusal::TooFewCells),
-    };
-    let count = count_points(cells, layout);
+    let layout = fill(priced, cells)?;
+    let rows = CellRows { cells, layout };
+    let count = count_points(&rows);
     if points.len() < count {
         return Err(QuestionRefusal::TooShort);
     }
-    write_points(cells, layout, points);
+    write_points(&rows, points);
     Ok(count)
 }

@@ -4,171 +4,135 @@ ghost use Rattle.refusals.specs.Answer.{answer_of};
 ghost use Rattle.sheets.specs.Book.{book};
 ghost use Rattle.sheets.specs.History.{KnownFurther};
 ghost use Rattle.model.specs.Limit.{unquoted, lowest_unquoted};
-ghost use Rattle.model.specs.Question.{few_cells, limit_answer, limit_cells, limit_bytes, budget_answer, budget_bytes, deadline_answer, deadline_bytes};
+ghost use Rattle.model.specs.Question.{limit_answer, limit_cells, limit_bytes, budget_answer, budget_bytes, deadline_answer, deadline_bytes};
 ghost use Rattle.model.specs.Scan.{first_below};
 ghost use Rattle.planner.specs.Limit.{result_of, limit_check, row_within};
 ghost use Rattle.planner.specs.Refusal.{question_told};
-ghost use Rattle.cells.specs.Memory.{row_costs};
+ghost use Rattle.planner.specs.Row.{first_row};
 
 use crate::QuestionRefusal;
 use crate::limit::Limit;
 use crate::plan::write_plan;
-use cells::{Layout, cheapest, check_cells, cost_at, fill};
+use cells::{CellRows, cheapest, check_cells, fill};
 use costs::Cost;
-use model::{Cell, Point};
-use sheets::{Call, Sheet, Task};
-use tariffs::Tariff;
-
-// No quote takes longer.
-const MAX_MINUTES: u32 = 1_440;
-
-// Whether there are fewer cells than a question on the sheet needs.
-pub(crate) fn few_cells<T: Tariff>(sheet: &Sheet, tariff: &T, cells: &[Cell<T::Cost>]) -> bool
-    ensures { result ≡ few_cells (T.Tariff.meaning tariff.now) (book sheet.now) cells.now }
-{
-    match check_cells(sheet, tariff, cells) {
-        Ok(_) => false,
-        Err(_) => true,
-    }
-}
+use model::{Cell, Point, PricedSheet};
+use sheets::{Call, Task};
+use tariffs::{MAX_MINUTES, Tariff};
 
 // Whether the task stands and no machine quotes it.
 fn is_unquoted<T: Tariff>(tariff: &T, task: &Task) -> bool
     ensures { result ≡ unquoted (T.Tariff.meaning tariff.now) task.now }
 {
-    if task.struck {
-        return false;
-    }
-    match cheapest(tariff, task, MAX_MINUTES) {
-        Some(_) => false,
-        None => true,
-    }
+    !task.struck && cheapest(tariff, task, MAX_MINUTES).is_none()
 }
 
 // The lowest standing task that no machine quotes.
-fn lowest_unquoted<T: Tariff>(sheet: &Sheet, tariff: &T) -> Option<usize>
-    ensures { result ≡ lowest_unquoted (T.Tariff.meaning tariff.now) (book sheet.now) }
+fn lowest_unquoted<T: Tariff>(priced: &PricedSheet<T>) -> Option<usize>
+    ensures { result ≡ lowest_unquoted (T.Tariff.meaning priced.now.tariff.now) (book priced.now.sheet.now) }
 {
-    for (number, task) in sheet.tasks().iter().enumerate() {
-        if is_unquoted(tariff, task) {
-            return Some(number);
-        }
-    }
-    None
+    let tariff = priced.tariff;
+    priced
+        .sheet
+        .tasks()
+        .iter()
+        .position(|task| is_unquoted(tariff, task))
 }
 
 // Refuses what is refused before any cell is written.
 fn check<T: Tariff>(
-    sheet: &Sheet,
-    tariff: &T,
+    priced: &PricedSheet<T>,
     cells: &[Cell<T::Cost>],
     bytes: usize,
 ) -> Result<(), QuestionRefusal>
-    ensures { answer_of question_told result ≡ limit_check (T.Tariff.meaning tariff.now) (book sheet.now) cells.now bytes }
+    ensures { answer_of question_told result ≡ limit_check (T.Tariff.meaning priced.now.tariff.now) (book priced.now.sheet.now) cells.now bytes }
 {
-    if few_cells(sheet, tariff, cells) {
-        return Err(QuestionRefusal::TooFewCells);
-    }
-    if bytes < sheet.task_count() {
+    check_cells(priced, cells)?;
+    if bytes < priced.sheet.task_count() {
         return Err(QuestionRefusal::TooShort);
     }
-    match lowest_unquoted(sheet, tariff) {
+    match lowest_unquoted(priced) {
         Some(task) => Err(QuestionRefusal::Unquoted(task)),
         None => Ok(()),
     }
 }
 
 // The first minute before the end whose cost is at most the limit, with that cost.
-fn first_within<C: Cost>(cells: &[Cell<C>], layout: Layout, end: u32, limit: C) -> Option<Point<C>>
-    ensures value { result ≡ first_below C.Cost.kind (row_costs C.Cost.kind layout cells.now 0) limit end }
+fn first_within<C: Cost>(rows: &CellRows<C>, end: u32, limit: C) -> Option<Point<C>>
+    ensures value { result ≡ first_below C.Cost.kind (first_row C.Cost.kind rows.now) limit end }
     ensures below { IfSome result (λ p. p.length < end) }
 {
-    for minute in 0..end {
-        if let Some(cost) = cost_at(cells, layout, 0, minute) {
-            if cost.at_most(limit) {
-                return Some(Point {
-                    length: minute,
-                    cost,
-                });
-            }
+    for length in 0..end {
+        if let Some(cost) = rows.cost_at(0, length)
+            && cost.at_most(limit)
+        {
+            return Some(Point { length, cost });
         }
     }
     None
 }
 
 // The best pair within the limit, read off the first row.
-fn find<C: Cost>(cells: &[Cell<C>], layout: Layout, limit: Limit<C>) -> Option<Point<C>>
-    requires { 0 < layout.width }
-    ensures value { result ≡ row_within C.Cost.kind (row_costs C.Cost.kind layout cells.now 0) layout.width limit }
-    ensures below { IfSome result (λ p. p.length < layout.width) }
+fn find<C: Cost>(rows: &CellRows<C>, limit: Limit<C>) -> Option<Point<C>>
+    requires { 0 < rows.now.layout.width }
+    ensures value { result ≡ row_within C.Cost.kind (first_row C.Cost.kind rows.now) rows.now.layout.width limit }
+    ensures below { IfSome result (λ p. p.length < rows.now.layout.width) }
 {
+    let width = rows.layout.width;
     match limit {
-        Limit::Budget(cost) => first_within(cells, layout, layout.width, cost),
+        Limit::Budget(cost) => first_within(rows, width, cost),
         Limit::Deadline(minutes) => {
-            let last = minutes.min(layout.width - 1);
-            match cost_at(cells, layout, 0, last) {
-                Some(cost) => first_within(cells, layout, last + 1, cost),
-                None => None,
-            }
+            let last = minutes.min(width - 1);
+            first_within(rows, last + 1, rows.cost_at(0, last)?)
         }
     }
 }
 
 fn answer_limit<T: Tariff>(
-    sheet: &Sheet,
-    tariff: &T,
+    priced: &PricedSheet<T>,
     limit: Limit<T::Cost>,
     cells: &mut [Cell<T::Cost>],
     bytes: &mut [u8],
 ) -> Result<Point<T::Cost>, QuestionRefusal>
-    ensures answer { answer_of question_told result ≡ limit_answer (T.Tariff.meaning tariff.now) (book sheet.now) cells.old bytes.old (result_of T.Cost.Cost.kind (T.Tariff.meaning tariff.now) (book sheet.now) limit) }
-    ensures cells { cells.new ≡ limit_cells T.Cost.Cost.kind (T.Tariff.meaning tariff.now) (book sheet.now) cells.old bytes.old }
-    ensures bytes { bytes.new ≡ limit_bytes T.Cost.Cost.kind (T.Tariff.meaning tariff.now) (book sheet.now) (limit_answer (T.Tariff.meaning tariff.now) (book sheet.now) cells.old bytes.old (result_of T.Cost.Cost.kind (T.Tariff.meaning tariff.now) (book sheet.now) limit)) bytes.old }
+    ensures answer { answer_of question_told result ≡ limit_answer (T.Tariff.meaning priced.now.tariff.now) (book priced.now.sheet.now) cells.old bytes.old (result_of T.Cost.Cost.kind (T.Tariff.meaning priced.now.tariff.now) (book priced.now.sheet.now) limit) }
+    ensures cells { cells.new ≡ limit_cells T.Cost.Cost.kind (T.Tariff.meaning priced.now.tariff.now) (book priced.now.sheet.now) cells.old bytes.old }
+    ensures bytes { bytes.new ≡ limit_bytes T.Cost.Cost.kind (T.Tariff.meaning priced.now.tariff.now) (book priced.now.sheet.now) (limit_answer (T.Tariff.meaning priced.now.tariff.now) (book priced.now.sheet.now) cells.old bytes.old (result_of T.Cost.Cost.kind (T.Tariff.meaning priced.now.tariff.now) (book priced.now.sheet.now) limit)) bytes.old }
 {
-    check(sheet, tariff, cells, bytes.len())?;
-    let layout = match fill(sheet, tariff, cells) {
-        Ok(layout) => layout,
-        Err(_) => return Err(QuestionRefusal::TooFewCells),
-    };
-    match find(cells, layout, limit) {
-        Some(point) => {
-            write_plan(sheet, tariff, cells, layout, &point, bytes);
-            Ok(point)
-        }
-        None => Err(QuestionRefusal::NoneWithin),
-    }
+    check(priced, cells, bytes.len())?;
+    let layout = fill(priced, cells)?;
+    let rows = CellRows { cells, layout };
+    let point = find(&rows, limit).ok_or(QuestionRefusal::NoneWithin)?;
+    write_plan(priced, &rows, &point, bytes);
+    Ok(point)
 }
 
 // The least length of an assignment that costs at most the limit, and the least cost at that length; the plan is
 // written to the bytes.
 pub fn budget<T: Tariff>(
-    sheet: &Sheet,
-    tariff: &T,
+    priced: &PricedSheet<T>,
     limit: T::Cost,
     cells: &mut [Cell<T::Cost>],
     bytes: &mut [u8],
 ) -> Result<Point<T::Cost>, QuestionRefusal>
-    ensures answer { answer_of question_told result ≡ budget_answer T.Cost.Cost.kind (T.Tariff.meaning tariff.now) (book sheet.now) limit cells.old bytes.old }
-    ensures cells { cells.new ≡ limit_cells T.Cost.Cost.kind (T.Tariff.meaning tariff.now) (book sheet.now) cells.old bytes.old }
-    ensures bytes { bytes.new ≡ budget_bytes T.Cost.Cost.kind (T.Tariff.meaning tariff.now) (book sheet.now) limit cells.old bytes.old }
-    ensures known { KnownFurther sheet.now Call.Budget sheet.now }
+    ensures answer { answer_of question_told result ≡ budget_answer T.Cost.Cost.kind (T.Tariff.meaning priced.now.tariff.now) (book priced.now.sheet.now) limit cells.old bytes.old }
+    ensures cells { cells.new ≡ limit_cells T.Cost.Cost.kind (T.Tariff.meaning priced.now.tariff.now) (book priced.now.sheet.now) cells.old bytes.old }
+    ensures bytes { bytes.new ≡ budget_bytes T.Cost.Cost.kind (T.Tariff.meaning priced.now.tariff.now) (book priced.now.sheet.now) limit cells.old bytes.old }
+    ensures known { KnownFurther priced.now.sheet.now Call.Budget priced.now.sheet.now }
 {
-    answer_limit(sheet, tariff, Limit::Budget(limit), cells, bytes)
+    answer_limit(priced, Limit::Budget(limit), cells, bytes)
 }
 
 // The least cost of an assignment no longer than the limit in minutes, and the least length at that cost; the plan is
 // written to the bytes.
 pub fn deadline<T: Tariff>(
-    sheet: &Sheet,
-    tariff: &T,
+    priced: &PricedSheet<T>,
     limit: u32,
     cells: &mut [Cell<T::Cost>],
     bytes: &mut [u8],
 ) -> Result<Point<T::Cost>, QuestionRefusal>
-    ensures answer { answer_of question_told result ≡ deadline_answer T.Cost.Cost.kind (T.Tariff.meaning tariff.now) (book sheet.now) limit cells.old bytes.old }
-    ensures cells { cells.new ≡ limit_cells T.Cost.Cost.kind (T.Tariff.meaning tariff.now) (book sheet.now) cells.old bytes.old }
-    ensures bytes { bytes.new ≡ deadline_bytes T.Cost.Cost.kind (T.Tariff.meaning tariff.now) (book sheet.now) limit cells.old bytes.old }
-    ensures known { KnownFurther sheet.now Call.Deadline sheet.now }
+    ensures answer { answer_of question_told result ≡ deadline_answer T.Cost.Cost.kind (T.Tariff.meaning priced.now.tariff.now) (book priced.now.sheet.now) limit cells.old bytes.old }
+    ensures cells { cells.new ≡ limit_cells T.Cost.Cost.kind (T.Tariff.meaning priced.now.tariff.now) (book priced.now.sheet.now) cells.old bytes.old }
+    ensures bytes { bytes.new ≡ deadline_bytes T.Cost.Cost.kind (T.Tariff.meaning priced.now.tariff.now) (book priced.now.sheet.now) limit cells.old bytes.old }
+    ensures known { KnownFurther priced.now.sheet.now Call.Deadline priced.now.sheet.now }
 {
-    answer_limit(sheet, tariff, Limit::Deadline(limit), cells, bytes)
+    answer_limit(priced, Limit::Deadline(limit), cells, bytes)
 }

@@ -6,10 +6,10 @@ ghost use Rattle.model.specs.Allowance.{cheapest, cost_within, cost_until, is_ti
 ghost use Rattle.model.specs.Plan.{struck_byte, machine_or, completes, or_neutral, allowances_for, plan};
 ghost use Rattle.planner.specs.Row.{HoldsLeastCosts};
 
-use cells::{Layout, TIMES, cheapest, cost_at, quoted_times, stage_cost};
+use cells::{CellRows, TIMES, cheapest, quoted_times, stage_cost};
 use costs::Cost;
-use model::{Cell, Point};
-use sheets::{MAX_STAGES, Sheet, Task};
+use model::{Point, PricedSheet};
+use sheets::{MAX_STAGES, Task};
 use tariffs::Tariff;
 
 // The byte of a struck task.
@@ -29,35 +29,30 @@ fn completes<C: Cost>(spent: C, cost: Option<C>, rest: Option<C>, limit: C) -> b
 fn or_neutral<C: Cost>(cost: Option<C>) -> C
     ensures { result ≡ or_neutral C.Cost.kind cost }
 {
-    match cost {
-        Some(cost) => cost,
-        None => C::neutral(),
-    }
+    cost.unwrap_or(C::neutral())
 }
 
 // Whether a time is marked; none past the marks is.
 fn is_marked(times: &[bool; TIMES], minutes: u32) -> bool
     ensures { result ≡ (nat_lt minutes 1441 && slice_index_or times.now minutes false) }
 {
-    let place = minutes as usize;
-    place < TIMES && times[place]
+    times.get(minutes as usize).is_some_and(|marked| *marked)
 }
 
 // What a stage costs within an allowance, from what it costs within one minute less: that changes only at quoted times.
 fn next_cost<T: Tariff>(
-    sheet: &Sheet,
-    tariff: &T,
+    priced: &PricedSheet<T>,
     stage: usize,
     times: &[bool; TIMES],
     allowance: u32,
     before: Option<T::Cost>,
 ) -> Option<T::Cost>
-    requires marked { (m : ℕ) → m < 1441 → slice_index_or times.now m false ≡ is_time (T.Tariff.meaning tariff.now) (stage_tasks (book sheet.now).tasks stage) m }
-    requires until { before ≡ cost_until T.Cost.Cost.kind (T.Tariff.meaning tariff.now) (stage_tasks (book sheet.now).tasks stage) allowance }
-    ensures { result ≡ cost_within T.Cost.Cost.kind (T.Tariff.meaning tariff.now) (stage_tasks (book sheet.now).tasks stage) allowance }
+    requires marked { (m : ℕ) → m < 1441 → slice_index_or times.now m false ≡ is_time (T.Tariff.meaning priced.now.tariff.now) (stage_tasks (book priced.now.sheet.now).tasks stage) m }
+    requires until { before ≡ cost_until T.Cost.Cost.kind (T.Tariff.meaning priced.now.tariff.now) (stage_tasks (book priced.now.sheet.now).tasks stage) allowance }
+    ensures { result ≡ cost_within T.Cost.Cost.kind (T.Tariff.meaning priced.now.tariff.now) (stage_tasks (book priced.now.sheet.now).tasks stage) allowance }
 {
     if is_marked(times, allowance) {
-        return stage_cost(sheet, tariff, stage, allowance);
+        return stage_cost(priced, stage, allowance);
     }
     before
 }
@@ -65,26 +60,24 @@ fn next_cost<T: Tariff>(
 // Writes the first allowance list of the point: for each stage the least allowance with which the stages behind it still
 // reach the cost. The last that is tried is all the minutes left.
 fn first_list<T: Tariff>(
-    sheet: &Sheet,
-    tariff: &T,
-    cells: &[Cell<T::Cost>],
-    layout: Layout,
+    priced: &PricedSheet<T>,
+    rows: &CellRows<T::Cost>,
     point: &Point<T::Cost>,
     list: &mut [u32],
 )
-    requires filled { HoldsLeastCosts T.Cost.Cost.kind (T.Tariff.meaning tariff.now) (book sheet.now) cells.now layout }
-    requires within { point.now.length < layout.width }
-    requires room { (book sheet.now).stages ≤ length list.old }
-    ensures { take (book sheet.now).stages list.new ≡ allowances_for T.Cost.Cost.kind (T.Tariff.meaning tariff.now) (book sheet.now) point.now }
+    requires filled { HoldsLeastCosts T.Cost.Cost.kind (T.Tariff.meaning priced.now.tariff.now) (book priced.now.sheet.now) rows.now.cells.now rows.now.layout }
+    requires within { point.now.length < rows.now.layout.width }
+    requires room { (book priced.now.sheet.now).stages ≤ length list.old }
+    ensures { take (book priced.now.sheet.now).stages list.new ≡ allowances_for T.Cost.Cost.kind (T.Tariff.meaning priced.now.tariff.now) (book priced.now.sheet.now) point.now }
 {
     let mut left = point.length;
     let mut spent = T::Cost::neutral();
-    'stages: for stage in 0..sheet.stage_count() {
-        let times = quoted_times(sheet, tariff, stage);
+    'stages: for stage in 0..priced.sheet.stage_count() {
+        let times = quoted_times(priced, stage);
         let mut cost = None;
         for allowance in 0..=left {
-            cost = next_cost(sheet, tariff, stage, &times, allowance, cost);
-            let rest = cost_at(cells, layout, stage as u32 + 1, left - allowance);
+            cost = next_cost(priced, stage, &times, allowance, cost);
+            let rest = rows.cost_at(stage as u32 + 1, left - allowance);
             if completes(spent, cost, rest, point.cost) || allowance == left {
                 list[stage] = allowance;
                 spent = spent.join(or_neutral(cost));
@@ -102,29 +95,24 @@ fn byte_under<T: Tariff>(tariff: &T, task: &Task, allowance: u32) -> u8
     if task.struck {
         return STRUCK_BYTE;
     }
-    match cheapest(tariff, task, allowance) {
-        Some(choice) => choice.machine as u8,
-        None => STRUCK_BYTE,
-    }
+    cheapest(tariff, task, allowance).map_or(STRUCK_BYTE, |choice| choice.machine as u8)
 }
 
 // Writes the plan of the point, a byte for each task number, to memory that has room for it.
 pub(crate) fn write_plan<T: Tariff>(
-    sheet: &Sheet,
-    tariff: &T,
-    cells: &[Cell<T::Cost>],
-    layout: Layout,
+    priced: &PricedSheet<T>,
+    rows: &CellRows<T::Cost>,
     point: &Point<T::Cost>,
     bytes: &mut [u8],
 )
-    requires filled { HoldsLeastCosts T.Cost.Cost.kind (T.Tariff.meaning tariff.now) (book sheet.now) cells.now layout }
-    requires within { point.now.length < layout.width }
-    requires room { length (book sheet.now).tasks ≤ length bytes.old }
-    ensures { bytes.new ≡ plan T.Cost.Cost.kind (T.Tariff.meaning tariff.now) (book sheet.now) point.now ++ drop (length (book sheet.now).tasks) bytes.old }
+    requires filled { HoldsLeastCosts T.Cost.Cost.kind (T.Tariff.meaning priced.now.tariff.now) (book priced.now.sheet.now) rows.now.cells.now rows.now.layout }
+    requires within { point.now.length < rows.now.layout.width }
+    requires room { length (book priced.now.sheet.now).tasks ≤ length bytes.old }
+    ensures { bytes.new ≡ plan T.Cost.Cost.kind (T.Tariff.meaning priced.now.tariff.now) (book priced.now.sheet.now) point.now ++ drop (length (book priced.now.sheet.now).tasks) bytes.old }
 {
     let mut list = [0; MAX_STAGES];
-    first_list(sheet, tariff, cells, layout, point, &mut list);
-    for (number, task) in sheet.tasks().iter().enumerate() {
-        bytes[number] = byte_under(tariff, task, list[task.stage]);
+    first_list(priced, rows, point, &mut list);
+    for (number, task) in priced.sheet.tasks().iter().enumerate() {
+        bytes[number] = byte_under(priced.tariff, task, list[task.stage]);
     }
 }

@@ -1,6 +1,9 @@
 // Why a question is refused.
+ghost use Rattle.std.specs.Prelude.{◌≡◌};
+ghost use Rattle.planner.specs.declared.refusal.QuestionRefusal.TheVariants.{TooFewCells};
 ghost use Rattle.planner.specs.Refusal.{question_told};
 
+use cells::TooFewCells;
 use refusals::Refusal;
 
 #[derive(Clone, Copy, PartialEq, Eq, Debug)]
@@ -13,6 +16,14 @@ pub enum QuestionRefusal {
     Unquoted(usize),
     // No assignment is within the limit.
     NoneWithin,
+}
+
+impl From<TooFewCells> for QuestionRefusal {
+    ghost from_gives = { λ _ refusal. refusal ≡ TooFewCells };
+
+    fn from(_: TooFewCells) -> Self {
+        Self::TooFewCells
+    }
 }
 
 impl Refusal for QuestionRefusal {

@@ -1,33 +1,42 @@
 // Whether two sheets, each under its tariff, offer the same bargains.
 use crate::samples::{
-    altered, card, card_a, row, rows_g, sheet_of_one, sheet_x, sheet_x_reordered, shows, used_cell,
+    altered, beginning, card, point, priced, row, sheet_of_one, sheet_x_reordered, used_cell,
     used_point,
 };
 use costs::{Cents, Grade};
-use model::{Cell, Point};
+use model::{Point, PricedSheet};
 use planner::{QuestionRefusal, same_bargains};
 use sheets::Sheet;
-use tariffs::{NeverQuotes, QuoteTable, RateCard, Row};
+use tariffs::{NeverQuotes, QuoteTable, RateCard, Row, Tariff};
+use worked::{card_a, rows_g, sheet_x};
 
-// X by A against another sheet under another card.
-fn as_x_by_a(sheet: &Sheet, card: &RateCard) -> Result<bool, QuestionRefusal> {
+// The answer with so many cells and points lent of used memory, how many cells were altered, and the points afterwards.
+fn asked<T: Tariff<Cost = Cents>>(
+    first: &PricedSheet<T>,
+    second: &PricedSheet<RateCard>,
+    cell_count: usize,
+    first_count: usize,
+    second_count: usize,
+) -> (
+    Result<bool, QuestionRefusal>,
+    usize,
+    [[Point<Cents>; 12]; 2],
+) {
     let mut cells = [used_cell(); 128];
-    let mut first = [used_point(); 12];
-    let mut second = [used_point(); 12];
-    same_bargains(
-        &sheet_x(),
-        &card_a(),
-        sheet,
-        card,
-        &mut cells,
-        &mut first,
-        &mut second,
-    )
+    let mut first_points = [used_point(); 12];
+    let mut second_points = [used_point(); 12];
+    let lent_cells = &mut cells[..cell_count.min(128)];
+    let lent_first = &mut first_points[..first_count.min(12)];
+    let lent_second = &mut second_points[..second_count.min(12)];
+    let answer = same_bargains(first, second, lent_cells, lent_first, lent_second);
+    (answer, altered(&cells), [first_points, second_points])
 }
 
 #[test]
 fn x_by_a_against_others(rt: HostRuntime) {
-    let mut reworked = sheet_x();
+    let x = sheet_x();
+    let a = card_a();
+    let mut reworked = x;
     let _ = reworked.rework(1, 61);
     for (sheet, lines, equal) in [
         // the order of tasks and machines does not matter
@@ -64,29 +73,24 @@ fn x_by_a_against_others(rt: HostRuntime) {
             false,
         ),
     ] {
-        assert_eq!(rt; as_x_by_a(&sheet, &card(&lines)), Ok(equal));
+        let other = card(&lines);
+        let (answer, _, _) = asked(&priced(&x, &a), &priced(&sheet, &other), 128, 12, 12);
+        assert_eq!(rt; answer, Ok(equal));
     }
 }
 
 // X by two tables.
 fn by_tables(first: &[Row], second: &[Row]) -> Result<bool, QuestionRefusal> {
-    let mut cells = [Cell {
-        reached: true,
-        cost: Grade::new(12),
-    }; 64];
-    let mut points = [Point {
-        length: 88,
-        cost: Grade::new(12),
-    }; 4];
-    let mut others = points;
+    let sheet = sheet_x();
+    let mut cells = [used_cell::<Grade>(); 64];
+    let mut first_points = [used_point(); 4];
+    let mut second_points = [used_point(); 4];
     same_bargains(
-        &sheet_x(),
-        &QuoteTable::over(first),
-        &sheet_x(),
-        &QuoteTable::over(second),
+        &priced(&sheet, &QuoteTable::over(first)),
+        &priced(&sheet, &QuoteTable::over(second)),
         &mut cells,
-        &mut points,
-        &mut others,
+        &mut first_points,
+        &mut second_points,
     )
 }
 
@@ -101,90 +105,39 @@ fn a_row_that_another_beats_does_not_matter(rt: HostRuntime) {
     }
 }
 
-// X under the tariff that never quotes against a sheet under a card.
-fn as_never(other: &Sheet, card: &RateCard) -> Result<bool, QuestionRefusal> {
-    let never: NeverQuotes<Cents> = NeverQuotes::new();
-    let mut cells = [used_cell(); 64];
-    let mut points = [used_point(); 9];
-    same_bargains(
-        &sheet_x(),
-        &never,
-        other,
-        card,
-        &mut cells,
-        &mut [],
-        &mut points,
-    )
-}
-
 #[test]
 fn empty_fronts_are_equal(rt: HostRuntime) {
+    let x = sheet_x();
+    let never: NeverQuotes<Cents> = NeverQuotes::new();
     for (sheet, card, equal) in [
         (sheet_of_one(7), card(&[]), true),
         (sheet_of_one(1_000_000), card_a(), true),
         (sheet_x(), card_a(), false),
         (Sheet::open(), card(&[]), false),
     ] {
-        assert_eq!(rt; as_never(&sheet, &card), Ok(equal));
+        let (answer, _, _) = asked(&priced(&x, &never), &priced(&sheet, &card), 64, 0, 9);
+        assert_eq!(rt; answer, Ok(equal));
     }
-}
-
-// Asks by A with the first cells of longer memory.
-fn ask(
-    first: &Sheet,
-    second: &Sheet,
-    cells: &mut [Cell<Cents>],
-    cell_count: usize,
-    first_points: &mut [Point<Cents>],
-    second_points: &mut [Point<Cents>],
-) -> Result<bool, QuestionRefusal> {
-    let cell_count = cell_count.min(cells.len());
-    let cells = &mut cells[0..cell_count];
-    same_bargains(
-        first,
-        &card_a(),
-        second,
-        &card_a(),
-        cells,
-        first_points,
-        second_points,
-    )
-}
-
-// The answer with so many cells and 8 points each, how many cells were altered, and whether the first points and no
-// others were.
-fn asked(
-    first: &Sheet,
-    second: &Sheet,
-    cell_count: usize,
-    expected: &[(u32, u64)],
-) -> (Result<bool, QuestionRefusal>, usize, bool) {
-    let mut cells = [used_cell(); 64];
-    let mut first_points = [used_point(); 8];
-    let mut second_points = [used_point(); 8];
-    let answer = ask(
-        first,
-        second,
-        &mut cells,
-        cell_count,
-        &mut first_points,
-        &mut second_points,
-    );
-    let kept = shows(&second_points, &[]);
-    (
-        answer,
-        altered(&cells),
-        kept && shows(&first_points, expected),
-    )
 }
 
 #[test]
 fn memory_too_short_for_either_sheet_is_refused(rt: HostRuntime) {
     let few = Err(QuestionRefusal::TooFewCells);
     let short = Err(QuestionRefusal::TooShort);
+    let nothing_to_do = beginning(&[point(0, 0)]);
+    let used = [used_point(); 12];
+    let x = sheet_x();
     let empty = Sheet::open();
-    assert!(rt; asked(&sheet_x(), &empty, 50, &[]) == (few, 0, true));
-    assert!(rt; asked(&empty, &sheet_x(), 50, &[]) == (few, 0, true));
-    assert!(rt; asked(&sheet_x(), &empty, 64, &[]) == (short, 51, true));
-    assert!(rt; asked(&empty, &sheet_x(), 64, &[(0, 0)]) == (short, 51, true));
+    let a = card_a();
+    for (first, second, cells, answer, altered, first_points) in [
+        (x, empty, 50, few, 0, used),
+        (empty, x, 50, few, 0, used),
+        (x, empty, 64, short, 51, used),
+        (empty, x, 64, short, 51, nothing_to_do),
+    ] {
+        assert_eq!(rt;
+            asked(&priced(&first, &a), &priced(&second, &a), cells, 8, 8),
+            (answer, altered, [first_points, used])
+        );
+    }
 }

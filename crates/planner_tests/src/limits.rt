@@ -1,12 +1,13 @@
 // Budgets and deadlines in cents: answers, plans, refusals, and what they leave in memory.
 use crate::samples::{
-    altered, card, card_a, sheet_of_one, sheet_x, sheet_x_reordered, told, used_cell,
+    altered, card, point, priced, sheet_of_one, sheet_x_reordered, told, used_cell,
 };
 use costs::Cents;
-use model::Cell;
+use model::{Point, PricedSheet};
 use planner::{budget, deadline};
 use sheets::{Call, Sheet};
 use tariffs::RateCard;
+use worked::{card_a, sheet_x};
 
 #[derive(Clone, Copy)]
 enum Limit {
@@ -14,62 +15,47 @@ enum Limit {
     Deadline(u32),
 }
 
-// Asks with the first cells and bytes of longer memory.
-fn ask(
-    sheet: &Sheet,
-    card: &RateCard,
-    limit: Limit,
-    cells: &mut [Cell<Cents>],
-    cell_count: usize,
-    bytes: &mut [u8],
-    byte_count: usize,
-) -> Result<(u32, u64), (u8, Option<usize>)> {
-    let cell_count = cell_count.min(cells.len());
-    let byte_count = byte_count.min(bytes.len());
-    let cells = &mut cells[0..cell_count];
-    let bytes = &mut bytes[0..byte_count];
-    match limit {
-        Limit::Budget(cost) => told(budget(sheet, card, Cents::new(cost), cells, bytes)),
-        Limit::Deadline(minutes) => told(deadline(sheet, card, minutes, cells, bytes)),
-    }
-}
-
 // The answer with so many cells and bytes lent of used memory, the bytes afterwards, and how many cells were altered.
 fn asked(
-    sheet: &Sheet,
-    card: &RateCard,
+    priced: &PricedSheet<RateCard>,
     limit: Limit,
     cell_count: usize,
     byte_count: usize,
-) -> (Result<(u32, u64), (u8, Option<usize>)>, [u8; 5], usize) {
+) -> (Result<Point<Cents>, (u8, Option<usize>)>, [u8; 5], usize) {
     let mut cells = [used_cell(); 80];
     let mut bytes = [9; 5];
-    let answer = ask(
-        sheet, card, limit, &mut cells, cell_count, &mut bytes, byte_count,
-    );
-    (answer, bytes, altered(&cells))
+    let lent_cells = &mut cells[..cell_count.min(80)];
+    let lent_bytes = &mut bytes[..byte_count.min(5)];
+    let answer = match limit {
+        Limit::Budget(cents) => budget(priced, Cents::new(cents), lent_cells, lent_bytes),
+        Limit::Deadline(minutes) => deadline(priced, minutes, lent_cells, lent_bytes),
+    };
+    (told(answer), bytes, altered(&cells))
 }
 
 #[test]
 fn limits_of_x_by_a(rt: HostRuntime) {
     for (limit, answer, plan) in [
-        (Limit::Budget(u64::MAX), Ok((3, 400)), [2, 2, 2, 9, 9]),
-        (Limit::Budget(399), Ok((4, 375)), [2, 1, 2, 9, 9]),
-        (Limit::Budget(260), Ok((9, 260)), [1, 0, 1, 9, 9]),
-        (Limit::Budget(259), Ok((12, 245)), [1, 0, 0, 9, 9]),
-        (Limit::Budget(220), Ok((16, 220)), [0, 0, 0, 9, 9]),
+        (Limit::Budget(u64::MAX), Ok(point(3, 400)), [2, 2, 2, 9, 9]),
+        (Limit::Budget(399), Ok(point(4, 375)), [2, 1, 2, 9, 9]),
+        (Limit::Budget(260), Ok(point(9, 260)), [1, 0, 1, 9, 9]),
+        (Limit::Budget(259), Ok(point(12, 245)), [1, 0, 0, 9, 9]),
+        (Limit::Budget(220), Ok(point(16, 220)), [0, 0, 0, 9, 9]),
         (Limit::Budget(219), Err((10, None)), [9; 5]),
         (Limit::Deadline(2), Err((10, None)), [9; 5]),
-        (Limit::Deadline(3), Ok((3, 400)), [2, 2, 2, 9, 9]),
-        (Limit::Deadline(5), Ok((4, 375)), [2, 1, 2, 9, 9]),
-        (Limit::Deadline(15), Ok((13, 235)), [0, 0, 1, 9, 9]),
+        (Limit::Deadline(3), Ok(point(3, 400)), [2, 2, 2, 9, 9]),
+        (Limit::Deadline(5), Ok(point(4, 375)), [2, 1, 2, 9, 9]),
+        (Limit::Deadline(15), Ok(point(13, 235)), [0, 0, 1, 9, 9]),
         (
             Limit::Deadline(4_294_967_295),
-            Ok((16, 220)),
+            Ok(point(16, 220)),
             [0, 0, 0, 9, 9],
         ),
     ] {
-        assert!(rt; asked(&sheet_x(), &card_a(), limit, 64, 5) == (answer, plan, 51));
+        assert_eq!(rt;
+            asked(&priced(&sheet_x(), &card_a()), limit, 64, 5),
+            (answer, plan, 51)
+        );
     }
 }
 
@@ -77,9 +63,9 @@ fn limits_of_x_by_a(rt: HostRuntime) {
 fn memory_too_short_is_refused_and_left_alone(rt: HostRuntime) {
     for (cells, bytes, number) in [(50, 3, 7), (50, 2, 7), (0, 0, 7), (51, 2, 8)] {
         for limit in [Limit::Budget(0), Limit::Deadline(5)] {
-            assert!(rt;
-                asked(&sheet_x(), &card_a(), limit, cells, bytes)
-                    == (Err((number, None)), [9; 5], 0)
+            assert_eq!(rt;
+                asked(&priced(&sheet_x(), &card_a()), limit, cells, bytes),
+                (Err((number, None)), [9; 5], 0)
             );
         }
     }
@@ -101,8 +87,9 @@ fn the_lowest_task_without_quotes_is_told(rt: HostRuntime) {
             work: 900_000,
         },
     ]);
-    assert!(rt;
-        asked(&sheet, &card_a(), Limit::Budget(1000), 39, 3) == (Err((8, None)), [9; 5], 0)
+    assert_eq!(rt;
+        asked(&priced(&sheet, &card_a()), Limit::Budget(1000), 39, 3),
+        (Err((8, None)), [9; 5], 0)
     );
     for (call, task) in [
         (Call::Front, 1),
@@ -116,13 +103,19 @@ fn the_lowest_task_without_quotes_is_told(rt: HostRuntime) {
         ),
     ] {
         let _ = sheet.perform(call);
-        assert!(rt;
-            asked(&sheet, &card_a(), Limit::Deadline(0), 39, 4) == (Err((9, Some(task))), [9; 5], 0)
+        assert_eq!(rt;
+            asked(&priced(&sheet, &card_a()), Limit::Deadline(0), 39, 4),
+            (Err((9, Some(task))), [9; 5], 0)
         );
     }
-    assert!(rt;
-        asked(&sheet_of_one(7), &card(&[]), Limit::Budget(5), 2, 1)
-            == (Err((9, Some(0))), [9; 5], 0)
+    assert_eq!(rt;
+        asked(
+            &priced(&sheet_of_one(7), &card(&[])),
+            Limit::Budget(5),
+            2,
+            1
+        ),
+        (Err((9, Some(0))), [9; 5], 0)
     );
 }
 
@@ -140,27 +133,27 @@ fn alike() -> Sheet {
 fn plans_go_by_the_first_list_and_the_lowest_machine(rt: HostRuntime) {
     let tied = card(&[(10, 700), (10, 600), (10, 600), (20, 1500)]);
     for (sheet, card, limit, answer, plan) in [
-        (alike(), card_a(), 199, (4, 175), [2, 1, 9, 9, 9]),
-        (alike(), card_a(), 150, (6, 150), [1, 1, 9, 9, 9]),
-        (alike(), card_a(), 149, (9, 135), [1, 0, 9, 9, 9]),
+        (alike(), card_a(), 199, point(4, 175), [2, 1, 9, 9, 9]),
+        (alike(), card_a(), 150, point(6, 150), [1, 1, 9, 9, 9]),
+        (alike(), card_a(), 149, point(9, 135), [1, 0, 9, 9, 9]),
         (
             sheet_x_reordered(),
             card_a(),
             399,
-            (4, 375),
+            point(4, 375),
             [2, 1, 255, 2, 9],
         ),
         (
             sheet_x_reordered(),
             card_a(),
             259,
-            (12, 245),
+            point(12, 245),
             [0, 0, 255, 1, 9],
         ),
-        (sheet_x(), tied, 220, (16, 220), [1, 1, 1, 9, 9]),
+        (sheet_x(), tied, 220, point(16, 220), [1, 1, 1, 9, 9]),
     ] {
-        let (told, bytes, _) = asked(&sheet, &card, Limit::Budget(limit), 64, 5);
-        assert!(rt; told == Ok(answer) && bytes == plan);
+        let (told, bytes, _) = asked(&priced(&sheet, &card), Limit::Budget(limit), 64, 5);
+        assert_eq!(rt; (told, bytes), (Ok(answer), plan));
     }
 }
 
@@ -168,59 +161,57 @@ fn plans_go_by_the_first_list_and_the_lowest_machine(rt: HostRuntime) {
 fn plans_follow_strikes_and_reworks(rt: HostRuntime) {
     let mut sheet = sheet_x();
     for (call, limit, answer, plan, cells) in [
-        (Call::Front, 300, (6, 300), [1, 1, 2, 9, 9], 51),
+        (Call::Front, 300, point(6, 300), [1, 1, 2, 9, 9], 51),
         (
             Call::Strike { task: 1 },
             299,
-            (5, 275),
+            point(5, 275),
             [2, 255, 1, 9, 9],
             51,
         ),
         (
             Call::Rework { task: 2, work: 120 },
             300,
-            (11, 275),
+            point(11, 275),
             [1, 255, 1, 9, 9],
             69,
         ),
         (
             Call::Strike { task: 0 },
             200,
-            (2, 200),
+            point(2, 200),
             [255, 255, 2, 9, 9],
             39,
         ),
         (
             Call::Strike { task: 2 },
             0,
-            (0, 0),
+            point(0, 0),
             [255, 255, 255, 9, 9],
             3,
         ),
     ] {
         let _ = sheet.perform(call);
-        assert!(rt;
-            asked(&sheet, &card_a(), Limit::Budget(limit), 80, 5) == (Ok(answer), plan, cells)
+        assert_eq!(rt;
+            asked(&priced(&sheet, &card_a()), Limit::Budget(limit), 80, 5),
+            (Ok(answer), plan, cells)
         );
     }
 }
 
 #[test]
 fn memory_serves_one_question_after_another(rt: HostRuntime) {
+    let sheet = sheet_x();
+    let card = card_a();
+    let priced = priced(&sheet, &card);
     let mut cells = [used_cell(); 51];
     let mut bytes = [9; 3];
-    let _ = budget(
-        &sheet_x(),
-        &card_a(),
-        Cents::new(399),
-        &mut cells,
-        &mut bytes,
-    );
-    let answer = deadline(&sheet_x(), &card_a(), 12, &mut cells, &mut bytes);
-    let refused = deadline(&sheet_x(), &card_a(), 2, &mut cells, &mut bytes);
-    assert!(rt;
-        told(answer) == Ok((12, 245)) && told(refused) == Err((10, None)) && bytes == [1, 0, 0]
-    );
+    let _ = budget(&priced, Cents::new(399), &mut cells, &mut bytes);
+    let answer = deadline(&priced, 12, &mut cells, &mut bytes);
+    let refused = deadline(&priced, 2, &mut cells, &mut bytes);
+    assert_eq!(rt; told(answer), Ok(point(12, 245)));
+    assert_eq!(rt; told(refused), Err((10, None)));
+    assert_eq!(rt; bytes, [1, 0, 0]);
 }
 
 // 16 stages of 16 tasks of one unit each.
@@ -241,13 +232,14 @@ fn the_largest_sheet_and_the_longest_stage_are_planned(rt: HostRuntime) {
     let mut bytes = [9; 256];
     let card = card(&[(694, 601), (695, 600)]);
     let longest = budget(
-        &sheet_of_one(1_000_000),
-        &card,
+        &priced(&sheet_of_one(1_000_000), &card),
         Cents::new(14_390),
         &mut cells,
         &mut bytes,
     );
-    assert!(rt; told(longest) == Ok((1439, 14_390)) && bytes[0] == 1 && bytes[1] == 9);
-    let largest = deadline(&largest_sheet(), &card, 16, &mut cells, &mut bytes);
-    assert!(rt; told(largest) == Ok((16, 2560)) && bytes == [1; 256]);
+    assert_eq!(rt; told(longest), Ok(point(1439, 14_390)));
+    assert_eq!(rt; [bytes[0], bytes[1]], [1, 9]);
+    let largest = deadline(&priced(&largest_sheet(), &card), 16, &mut cells, &mut bytes);
+    assert_eq!(rt; told(largest), Ok(point(16, 2560)));
+    assert_eq!(rt; bytes, [1; 256]);
 }

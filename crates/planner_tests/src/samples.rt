@@ -1,26 +1,13 @@
-// Sheets, tariffs and memory for the tests, and results by their numbers.
-use costs::Cents;
-use model::{Cell, Point};
+// Sheets, tariffs and memory for the tests, and refusals by their numbers.
+use costs::{Cents, Cost, Grade};
+use model::{Cell, Point, PricedSheet};
 use planner::QuestionRefusal;
 use refusals::Refusal;
 use sheets::{Call, Sheet};
+use std::array;
 use tariffs::{RateCard, Row};
 
-// Works 100 and 60 in the first stage, 60 in the second.
-pub(crate) fn sheet_x() -> Sheet {
-    Sheet::replay(&[
-        Call::Stage,
-        Call::Task {
-            stage: 0,
-            work: 100,
-        },
-        Call::Task { stage: 0, work: 60 },
-        Call::Stage,
-        Call::Task { stage: 1, work: 60 },
-    ])
-}
-
-// Its calls in another order, with a struck task between.
+// The calls of the worked sheet in another order, with a struck task between.
 pub(crate) fn sheet_x_reordered() -> Sheet {
     Sheet::replay(&[
         Call::Stage,
@@ -50,10 +37,6 @@ pub(crate) fn card(lines: &[(u32, u32)]) -> RateCard {
     card
 }
 
-pub(crate) fn card_a() -> RateCard {
-    card(&[(10, 600), (20, 1500), (60, 6000)])
-}
-
 pub(crate) fn row(machine: u32, work: u32, minutes: u32, grade: u32) -> Row {
     Row {
         machine,
@@ -63,63 +46,72 @@ pub(crate) fn row(machine: u32, work: u32, minutes: u32, grade: u32) -> Row {
     }
 }
 
-pub(crate) fn rows_g() -> [Row; 5] {
-    [
-        row(0, 100, 10, 1),
-        row(1, 100, 5, 4),
-        row(0, 60, 6, 1),
-        row(1, 60, 3, 1),
-        row(2, 60, 1, 9),
-    ]
+pub(crate) fn priced<'a, T>(sheet: &'a Sheet, tariff: &'a T) -> PricedSheet<'a, T> {
+    PricedSheet { sheet, tariff }
 }
 
-// Cells and points that hold what no question leaves.
-pub(crate) fn used_cell() -> Cell<Cents> {
-    Cell {
-        reached: true,
-        cost: Cents::new(77),
+pub(crate) fn point(length: u32, cents: u64) -> Point<Cents> {
+    Point {
+        length,
+        cost: Cents::new(cents),
     }
 }
 
-pub(crate) fn used_point() -> Point<Cents> {
+pub(crate) fn graded(length: u32, number: u32) -> Point<Grade> {
+    Point {
+        length,
+        cost: Grade::new(number),
+    }
+}
+
+// A cost kind with a cost that no question leaves.
+pub(crate) trait Used: Cost {
+    fn used() -> Self;
+}
+
+impl Used for Cents {
+    fn used() -> Cents {
+        Cents::new(77)
+    }
+}
+
+impl Used for Grade {
+    fn used() -> Grade {
+        Grade::new(12)
+    }
+}
+
+// Cells and points that hold what no question leaves.
+pub(crate) fn used_cell<C: Used>() -> Cell<C> {
+    Cell {
+        reached: true,
+        cost: C::used(),
+    }
+}
+
+pub(crate) fn used_point<C: Used>() -> Point<C> {
     Point {
         length: 88,
-        cost: Cents::new(77),
+        cost: C::used(),
     }
 }
 
 // How many cells were altered, up to the last such. A question that fills its cells alters the last of them.
-pub(crate) fn altered(cells: &[Cell<Cents>]) -> usize {
-    let mut end = 0;
-    for (place, cell) in cells.iter().enumerate() {
-        if !cell.reached || cell.cost.amount() != 77 {
-            end = place + 1;
-        }
-    }
-    end
+pub(crate) fn altered<C: Used + PartialEq>(cells: &[Cell<C>]) -> usize {
+    cells
+        .iter()
+        .rposition(|cell| *cell != used_cell())
+        .map_or(0, |last| last + 1)
 }
 
-// Whether the points are these, and then as they were before any question.
-pub(crate) fn shows(points: &[Point<Cents>], expected: &[(u32, u64)]) -> bool {
-    for (place, point) in points.iter().enumerate() {
-        let (length, amount) = if place < expected.len() {
-            expected[place]
-        } else {
-            (88, 77)
-        };
-        if point.length != length || point.cost.amount() != amount {
-            return false;
-        }
-    }
-    true
+// Used memory that begins with these points.
+pub(crate) fn beginning<C: Used, const N: usize>(points: &[Point<C>]) -> [Point<C>; N] {
+    array::from_fn(|place| points.get(place).copied().unwrap_or(used_point()))
 }
 
-// A length and cents, or the refusal's number and what it carries.
+// The answer, or the refusal's number and what it carries.
 pub(crate) fn told(
     answer: Result<Point<Cents>, QuestionRefusal>,
-) -> Result<(u32, u64), (u8, Option<usize>)> {
-    match answer {
-        Ok(point) => Ok((point.length, point.cost.amount())),
-        Err(refusal) => Err((refusal.number(), refusal.carried())),
-    }
+) -> Result<Point<Cents>, (u8, Option<usize>)> {
+    answer.map_err(|refusal| (refusal.number(), refusal.carried()))
 }

@@ -1,5 +1,5 @@
 -- What follows from a call that is not refused
-use Rattle.std.proofs.Common.{◌≡◌, ℕ, ◌<◌, ◌≤◌, Bool, true, false, length, Ok, Err, sym, refl, ap, arith}
+use Rattle.std.proofs.Common.{◌≡◌, ℕ, ◌<◌, ◌≤◌, Bool, true, false, length, Ok, Err, sym, refl, ap}
 use Rattle.std.specs.List.{slice_get}
 use Rattle.std.proofs.lemmas.Bool.{not-false, leb-false, leb-true, and_parts}
 use Rattle.refusals.specs.Answer.{Answer, refused_if}
@@ -10,7 +10,7 @@ use Rattle.sheets.specs.Tasks.{max_stages, max_tasks, stands, new_task, SoundTas
 use Rattle.sheets.specs.Book.{Book, checked, accepted, obeyed, step}
 
 pub passed : {A : Type 0} (applies : Bool) (number : ℕ) (rest : Answer A) (outcome : A) → Ok outcome ≡ refused_if applies number rest → (applies ≡ false) × (Ok outcome ≡ rest)
-passed true number rest outcome e = let never : ◌≡◌ {A = ℕ} 0 1 = cc in absurd (omega arith)
+passed true number rest outcome e = cc
 passed false number rest outcome e = (refl, e)
 
 pub step_accepted : (book : Book) (call : Call) → accepted ≡ checked book call → step book call ≡ obeyed book call

@@ -59,7 +59,7 @@ found_other change (suc m) (task ∷ tasks) zero other = refl
 found_other change (suc m) (task ∷ tasks) (suc n) other = found_other change m tasks n (λ e. other (ap suc e))
 
 found_append : {A : Type 0} (view : Option Task → Option A) (a : A) → view None ≡ None → (tasks others : List Task) (n : ℕ) → view (slice_get tasks n) ≡ Some a → view (slice_get (tasks ++ others) n) ≡ Some a
-found_append view a none [] others n found = let never : ◌≡◌ {A = ℕ} 0 1 = cc in absurd (omega arith)
+found_append view a none [] others n found = cc
 found_append view a none (task ∷ tasks) others zero found = found
 found_append view a none (task ∷ tasks) others (suc n) found = found_append view a none tasks others n found
 
@@ -118,7 +118,7 @@ answered b call outcome = by (checked b call) refl
   where
     by : (checks : Answer (Unit {0})) → checks ≡ checked b call → elim checks as (λ _. Answer (Option ℕ)) [ Ok _ ↦ Ok (number b call) | Err refused ↦ Err refused ] ≡ Ok outcome → (accepted ≡ checked b call) × (outcome ≡ number b call)
     by (Ok _) e h = (e, cc)
-    by (Err refused) e h = let never : ◌≡◌ {A = ℕ} 0 1 = cc in absurd (omega arith)
+    by (Err refused) e h = cc
 
 pub task_numbers_are_never_reused : TaskNumbersAreNeverReused
 task_numbers_are_never_reused calls stage work earlier others stage' work' later first second =
@@ -176,7 +176,7 @@ step_refused : (b : Book) (call : Call) (refused : Refused) → answer b call �
 step_refused b call refused = by (checked b call)
   where
     by : (checks : Answer (Unit {0})) → elim checks as (λ _. Answer (Option ℕ)) [ Ok _ ↦ Ok (number b call) | Err why ↦ Err why ] ≡ Err refused → elim checks as (λ _. Book) [ Ok _ ↦ obeyed b call | Err why ↦ b ] ≡ b
-    by (Ok _) h = let never : ◌≡◌ {A = ℕ} 0 1 = cc in absurd (omega arith)
+    by (Ok _) h = cc
     by (Err why) h = refl
 
 pub refused_calls_can_be_left_out : RefusedCallsCanBeLeftOut

@@ -1,24 +1,19 @@
 -- The first places of a sheet's table as the tasks of its book
-use Rattle.std.proofs.Common.{◌≡◌, ℕ, zero, suc, ◌+◌, ◌<◌, ◌≤◌, true, ◌≢◌, List, [], ◌∷◌, length, get_or, take, set, Some, None, sym, refl, ap, ◌∙◌, subst, inl, inr, arith, below_more}
+use Rattle.std.proofs.Common.{◌≡◌, ℕ, zero, suc, ◌+◌, ◌<◌, ◌≤◌, true, List, [], ◌∷◌, length, get_or, take, set, None, sym, refl, ap, ◌∙◌, subst, inl, inr, arith}
 use lib.Seq.{take-set-lt}
 use Rattle.std.specs.List.{slice_get}
-use Rattle.std.proofs.lemmas.List.{length-take-le, get_or-take, get_or_default, get_or-set_other, get_or-set_same, take_more_set}
-use Rattle.std.proofs.lemmas.Option.{slice_get-get_or, slice_get_past}
+use Rattle.std.proofs.lemmas.List.{length-take-le, get_or-take, get_or_default, take_more_set}
+use Rattle.std.proofs.lemmas.Option.{slice_get_past}
 use Rattle.std.proofs.lemmas.Bool.{cases_lt, both_ways}
 use Rattle.sheets.specs.declared.sheet.Sheet.{Sheet}
 use Rattle.sheets.specs.declared.task.Task.{Task}
 use Rattle.sheets.specs.declared.call.Call.TheVariants.{Task as NewTask, Rework, Strike}
-use Rattle.sheets.specs.Tasks.{no_task, new_task, reworked, struck_out, stands, SoundTask, SoundTasks}
+use Rattle.sheets.specs.Tasks.{no_task, new_task, reworked, struck_out, stands, SoundTask}
 use Rattle.sheets.specs.Book.{book, book_of, accepted, checked, changed, step}
 use Rattle.sheets.proofs.Books.{task_fits, rework_stands, strike_stands, step_accepted}
 
 pub count_is : (sheet : Sheet) → length (book sheet).tasks ≡ sheet.count
 count_is sheet = length-take-le sheet.count sheet.tasks (omega arith)
-
-pub found_within : (sheet : Sheet) (n : ℕ) → n < sheet.count → slice_get (book sheet).tasks n ≡ Some (get_or sheet.tasks n no_task)
-found_within sheet n h =
-    let long : n < length (book sheet).tasks = omega (arith, count_is sheet) in
-    slice_get-get_or (book sheet).tasks n no_task long ∙ ap Some (get_or-take sheet.count sheet.tasks n no_task h)
 
 pub found_past : (sheet : Sheet) (n : ℕ) → sheet.count ≤ n → slice_get (book sheet).tasks n ≡ None
 found_past sheet n h = slice_get_past (book sheet).tasks n (omega (arith, count_is sheet))
@@ -68,10 +63,3 @@ pub strike_written : (sheet : Sheet) (task : ℕ) → accepted ≡ checked (book
 strike_written sheet task e =
     ap (book_of sheet.stages) (changed_front struck_out sheet task (strike_within sheet task e))
     ∙ sym (step_accepted (book sheet) (Strike task) e)
-
--- one task more keeps the tasks sound
-pub sound_push : (stages count : ℕ) (tasks : List Task) (task : Task) → count < length tasks → SoundTasks stages count tasks → SoundTask stages task → SoundTasks stages (count + 1) (set tasks count task)
-sound_push stages count tasks task fits old new =
-    below_more (λ k. SoundTask stages (get_or (set tasks count task) k no_task)) count
-    (λ k h. let ne : k ≢ count = omega arith in subst (SoundTask stages) (sym (get_or-set_other tasks count k task no_task ne)) (old k h))
-    (subst (SoundTask stages) (sym (get_or-set_same tasks count task no_task fits)) new)

@@ -1,5 +1,5 @@
 -- A task of a sheet, and the limits of a sheet
-use Rattle.std.specs.Prelude.{ℕ, ◌<◌, ◌≤◌, Bool, true, false, not, List, Some, None, Option, slice_index_or}
+use Rattle.std.specs.Prelude.{ℕ, ◌<◌, ◌≤◌, Bool, true, false, not, ◌&&◌, List, Some, None, Option, ◌==◌, slice_index_or}
 use Rattle.work.specs.Work.{max_work}
 use Rattle.sheets.specs.declared.task.Task.{Task}
 
@@ -25,6 +25,10 @@ struck_out task = task_of task.stage task.work true
 abbrev pub stands : Option Task → Bool
 stands None = false
 stands (Some task) = not task.struck
+
+-- the task stands, and in this stage
+abbrev pub stands_in : ℕ → Task → Bool
+stands_in stage task = not task.struck && task.stage == stage
 
 -- the task's stage exists, and its work is in range
 abbrev pub SoundTask : ℕ → Task → Type 0

@@ -1,5 +1,5 @@
 // The four calls that alter a sheet.
-ghost use Rattle.std.specs.Prelude.{◌≡◌, ◌<◌, true, [], is_err};
+ghost use Rattle.std.specs.Prelude.{◌≡◌, true, [], is_err};
 ghost use Rattle.std.specs.List.{slice_get};
 ghost use Rattle.refusals.specs.Answer.{answer_of};
 ghost use Rattle.sheets.specs.Tasks.{stands};
@@ -27,10 +27,9 @@ impl Sheet {
 
     // Whether the number is that of a standing task.
     fn stands(&self, task: usize) -> bool
-        ensures value { result ≡ stands (slice_get (book self.now).tasks task) }
-        ensures within { result ≡ true → task < self.now.count }
+        ensures { result ≡ stands (slice_get (book self.now).tasks task) }
     {
-        task < self.count && !self.tasks[task].struck
+        self.get(task).is_some_and(|task| !task.struck)
     }
 
     // Refuses a call with the smallest number that applies.
@@ -38,44 +37,22 @@ impl Sheet {
         ensures { answer_of sheet_told result ≡ checked (book self.now) call }
     {
         match call {
-            Call::Stage => {
-                if self.stage_count() >= MAX_STAGES {
-                    return Err(SheetRefusal::Full);
-                }
-                Ok(())
+            Call::Stage if self.stage_count() >= MAX_STAGES => Err(SheetRefusal::Full),
+            Call::Task { .. } if self.task_count() >= MAX_TASKS => Err(SheetRefusal::Full),
+            Call::Task { stage, .. } if stage >= self.stage_count() => Err(SheetRefusal::Unknown),
+            Call::Rework { task, .. } | Call::Strike { task } if !self.stands(task) => {
+                Err(SheetRefusal::Unknown)
             }
-            Call::Task { stage, work } => {
-                if self.task_count() >= MAX_TASKS {
-                    return Err(SheetRefusal::Full);
-                }
-                if stage >= self.stage_count() {
-                    return Err(SheetRefusal::Unknown);
-                }
-                if !work_in_range(work) {
-                    return Err(SheetRefusal::WorkOutOfRange);
-                }
-                Ok(())
+            Call::Task { work, .. } | Call::Rework { work, .. } if !work_in_range(work) => {
+                Err(SheetRefusal::WorkOutOfRange)
             }
-            Call::Rework { task, work } => {
-                if !self.stands(task) {
-                    return Err(SheetRefusal::Unknown);
-                }
-                if !work_in_range(work) {
-                    return Err(SheetRefusal::WorkOutOfRange);
-                }
-                Ok(())
-            }
-            Call::Strike { task } => {
-                if !self.stands(task) {
-                    return Err(SheetRefusal::Unknown);
-                }
-                Ok(())
-            }
+            Call::Stage | Call::Task { .. } | Call::Rework { .. } | Call::Strike { .. } => Ok(()),
             Call::Front | Call::Budget | Call::Deadline => Ok(()),
         }
     }
 
     // Appends an empty stage.
+    #[tactic(auto, using(crate::proofs::Histories::known_further))]
     pub fn stage(&mut self) -> Result<usize, SheetRefusal>
         ensures answer { answer_of sheet_told (numbered result) ≡ answer (book self.old) Call.Stage }
         ensures after { book self.new ≡ step (book self.old) Call.Stage }
@@ -88,6 +65,7 @@ impl Sheet {
     }
 
     // Adds a task.
+    #[tactic(auto, using(crate::proofs::Histories::known_further))]
     pub fn task(&mut self, stage: usize, work: u32) -> Result<usize, SheetRefusal>
         ensures answer { answer_of sheet_told (numbered result) ≡ answer (book self.old) (Call.Task stage work) }
         ensures after { book self.new ≡ step (book self.old) (Call.Task stage work) }
@@ -102,6 +80,7 @@ impl Sheet {
     }
 
     // Gives a standing task another work.
+    #[tactic(auto, using(crate::proofs::Histories::known_further, crate::proofs::Sheets::rework_written))]
     pub fn rework(&mut self, task: usize, work: u32) -> Result<(), SheetRefusal>
         ensures answer { answer_of sheet_told (numberless result) ≡ answer (book self.old) (Call.Rework task work) }
         ensures after { book self.new ≡ step (book self.old) (Call.Rework task work) }
@@ -114,6 +93,7 @@ impl Sheet {
     }
 
     // Strikes a standing task. Its number is never used again.
+    #[tactic(auto, using(crate::proofs::Histories::known_further, crate::proofs::Sheets::strike_written))]
     pub fn strike(&mut self, task: usize) -> Result<(), SheetRefusal>
         ensures answer { answer_of sheet_told (numberless result) ≡ answer (book self.old) (Call.Strike task) }
         ensures after { book self.new ≡ step (book self.old) (Call.Strike task) }

@@ -2,7 +2,7 @@
 
 // The last three are questions. They leave the sheet alone whatever tariff, limit and memory they are asked with, and
 // so carry nothing.
-#[derive(Clone, Copy)]
+#[derive(Clone, Copy, PartialEq, Eq, Debug)]
 pub enum Call {
     Stage,
     Task { stage: usize, work: u32 },

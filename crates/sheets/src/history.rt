@@ -12,6 +12,7 @@ use crate::sheet::Sheet;
 
 impl Sheet {
     // Carries a call out; `stage` and `task` give the number of what they added.
+    #[tactic(auto, using(crate::proofs::Histories::known_further))]
     pub fn perform(&mut self, call: Call) -> Result<Option<usize>, SheetRefusal>
         ensures answer { answer_of sheet_told result ≡ answer (book self.old) call }
         ensures after { book self.new ≡ step (book self.old) call }
@@ -19,16 +20,10 @@ impl Sheet {
         ensures refused_alters_nothing { is_err result ≡ true → self.new ≡ self.old }
     {
         match call {
-            Call::Stage => Ok(Some(self.stage()?)),
-            Call::Task { stage, work } => Ok(Some(self.task(stage, work)?)),
-            Call::Rework { task, work } => {
-                self.rework(task, work)?;
-                Ok(None)
-            }
-            Call::Strike { task } => {
-                self.strike(task)?;
-                Ok(None)
-            }
+            Call::Stage => self.stage().map(Some),
+            Call::Task { stage, work } => self.task(stage, work).map(Some),
+            Call::Rework { task, work } => self.rework(task, work).map(|()| None),
+            Call::Strike { task } => self.strike(task).map(|()| None),
             Call::Front | Call::Budget | Call::Deadline => Ok(None),
         }
     }

@@ -27,11 +27,7 @@ impl Sheet {
         ensures value { result ≡ slice_get (book self.now).tasks task }
         ensures sound { IfSome result (λ found. SoundTask (book self.now).stages found) }
     {
-        if task < self.count {
-            Some(self.tasks[task])
-        } else {
-            None
-        }
+        self.tasks().get(task).copied()
     }
 
     // All tasks, by number.

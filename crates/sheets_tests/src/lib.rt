@@ -4,9 +4,8 @@
 #[cfg(test)]
 mod tests {
     use refusals::Refusal;
-    use sheets::{Call, MAX_STAGES, MAX_TASKS, Sheet, SheetRefusal};
+    use sheets::{Call, MAX_STAGES, MAX_TASKS, Sheet, SheetRefusal, Task};
     use std::process::Abort;
-    use std::test::Fail;
     use work::MAX_WORK;
 
     // A sheet with one stage.
@@ -63,15 +62,11 @@ mod tests {
 
     // The sum of all works, struck tasks included.
     fn works(sheet: &Sheet) -> u64 {
-        let mut sum: u64 = 0;
-        for task in sheet.tasks() {
-            sum = sum.saturating_add(u64::from(task.work));
-        }
-        sum
+        sheet.tasks().iter().fold(0, |sum: u64, task| sum.saturating_add(u64::from(task.work)))
     }
 
     #[test]
-    fn a_struck_task_is_unknown_for_good(rt: HostRuntime) -> Result<(), Fail> {
+    fn a_struck_task_is_unknown_for_good(rt: HostRuntime) {
         let mut sheet = with_stage(&rt);
         assert_eq!(rt; sheet.strike(0), Err(SheetRefusal::Unknown));
         assert_eq!(rt; sheet.task(0, 5), Ok(0));
@@ -79,16 +74,23 @@ mod tests {
         assert_eq!(rt; sheet.strike(0), Err(SheetRefusal::Unknown));
         assert_eq!(rt; sheet.rework(0, 7), Err(SheetRefusal::Unknown));
         assert_eq!(rt; sheet.task(0, 7), Ok(1));
-        let Some(task) = sheet.get(0) else {
-            return Err(Fail::new("a struck task keeps its number"));
-        };
-        assert!(rt; task.stage == 0 && task.work == 5 && task.struck);
-        let Some(task) = sheet.get(1) else {
-            return Err(Fail::new("the task was added"));
-        };
-        assert!(rt; task.stage == 0 && task.work == 7 && !task.struck);
-        assert!(rt; sheet.get(2).is_none());
-        Ok(())
+        assert_eq!(rt;
+            sheet.get(0),
+            Some(Task {
+                stage: 0,
+                work: 5,
+                struck: true
+            })
+        );
+        assert_eq!(rt;
+            sheet.get(1),
+            Some(Task {
+                stage: 0,
+                work: 7,
+                struck: false
+            })
+        );
+        assert_eq!(rt; sheet.get(2), None);
     }
 
     #[test]
@@ -166,10 +168,19 @@ mod tests {
         ]);
         assert_eq!(rt; sheet.stage_count(), 2);
         assert_eq!(rt; works(&sheet), 80);
-        let tasks = sheet.tasks();
-        assert!(rt; tasks.len() == 2);
-        assert!(rt; tasks[0].stage == 0 && tasks[0].work == 20 && tasks[0].struck);
-        assert!(rt; tasks[1].stage == 1 && tasks[1].work == 60 && !tasks[1].struck);
+        let tasks = [
+            Task {
+                stage: 0,
+                work: 20,
+                struck: true,
+            },
+            Task {
+                stage: 1,
+                work: 60,
+                struck: false,
+            },
+        ];
+        assert_eq!(rt; sheet.tasks(), tasks.as_slice());
         assert_eq!(rt; sheet.task(1, 1), Ok(2));
     }
 

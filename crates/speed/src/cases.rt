@@ -1,6 +1,7 @@
 // The sheets and tariffs that are timed.
 use crate::sequence::Sequence;
 use sheets::Sheet;
+use std::array;
 use tariffs::{RateCard, Row};
 
 // The speed of a card's slowest machine.
@@ -19,29 +20,26 @@ pub(crate) struct Shape {
 }
 
 impl Shape {
-    fn new(stages: usize, tasks: usize, machines: usize, longest: u32) -> Shape {
-        Shape {
+    pub(crate) fn named(name: &str) -> Option<Shape> {
+        let (stages, tasks, machines, longest) = match name {
+            "usual" => (10, 100, 12, 480),
+            "largest" => (16, 256, 32, 1_440),
+            "minutes-180" => (8, 32, 8, 180),
+            "minutes-360" => (8, 32, 8, 360),
+            "minutes-720" => (8, 32, 8, 720),
+            "minutes-1440" => (8, 32, 8, 1_440),
+            "machines-4" => (8, 64, 4, 1_440),
+            "machines-8" => (8, 64, 8, 1_440),
+            "machines-16" => (8, 64, 16, 1_440),
+            "machines-32" => (8, 64, 32, 1_440),
+            _ => return None,
+        };
+        Some(Shape {
             stages,
             tasks,
             machines,
             longest,
-        }
-    }
-
-    pub(crate) fn named(name: &str) -> Option<Shape> {
-        match name {
-            "usual" => Some(Shape::new(10, 100, 12, 480)),
-            "largest" => Some(Shape::new(16, 256, 32, 1_440)),
-            "minutes-180" => Some(Shape::new(8, 32, 8, 180)),
-            "minutes-360" => Some(Shape::new(8, 32, 8, 360)),
-            "minutes-720" => Some(Shape::new(8, 32, 8, 720)),
-            "minutes-1440" => Some(Shape::new(8, 32, 8, 1_440)),
-            "machines-4" => Some(Shape::new(8, 64, 4, 1_440)),
-            "machines-8" => Some(Shape::new(8, 64, 8, 1_440)),
-            "machines-16" => Some(Shape::new(8, 64, 16, 1_440)),
-            "machines-32" => Some(Shape::new(8, 64, 32, 1_440)),
-            _ => None,
-        }
+        })
     }
 
     // Tasks in each stage in turn. The first of a stage takes the longest time on the slowest machine.
@@ -88,23 +86,6 @@ fn open_stages(stages: usize) -> Sheet {
     sheet
 }
 
-// Works 100 and 60 in the first stage, 60 in the second.
-pub(crate) fn worked_sheet() -> Sheet {
-    let mut sheet = open_stages(2);
-    for (stage, work) in [(0, 100), (0, 60), (1, 60)] {
-        let _ = sheet.task(stage, work);
-    }
-    sheet
-}
-
-pub(crate) fn worked_card() -> RateCard {
-    let mut card = RateCard::new();
-    for (speed, rate) in [(10, 600), (20, 1_500), (60, 6_000)] {
-        let _ = card.add(speed, rate);
-    }
-    card
-}
-
 // A sheet of 64 tasks in 8 stages, no two of the same work.
 pub(crate) fn table_sheet() -> Sheet {
     let mut sheet = open_stages(8);
@@ -117,22 +98,15 @@ pub(crate) fn table_sheet() -> Sheet {
 // Four rows for each of these tasks; the faster, the higher the grade.
 pub(crate) fn table_rows() -> [Row; 256] {
     let mut sequence = Sequence::new();
-    let mut rows = [Row {
-        machine: 0,
-        work: 1,
-        minutes: 1,
-        grade: 0,
-    }; 256];
-    for (number, row) in rows.iter_mut().enumerate() {
+    array::from_fn(|number| {
         let minutes = sequence.next(1, 1_440);
-        *row = Row {
+        Row {
             machine: (number * 7 % 32) as u32,
             work: 1_000 + (number / ROWS_A_TASK) as u32,
             minutes,
             grade: sequence
                 .next(0, 4)
                 .wrapping_add(1_440u32.saturating_sub(minutes) / 120),
-        };
-    }
-    rows
+        }
+    })
 }

@@ -8,11 +8,13 @@ mod sequence;
 mod sums;
 mod timing;
 
-use crate::cases::{Shape, table_rows, table_sheet, worked_card, worked_sheet};
-use crate::timing::time_case;
+use crate::cases::{Shape, table_rows, table_sheet};
+use crate::timing::{Timer, time_case};
 use std::env;
+use std::num::NonZeroU32;
 use tariffs::QuoteTable;
 use texts::read_number;
+use worked::{card_a, sheet_x};
 
 const USAGE: &str = "usage: speed CASE RUNS
   CASE  worked, usual, largest or grades;
@@ -30,14 +32,14 @@ fn print_usage(rt: &HostRuntime) -> anyhow::Result<()> {
     Ok(())
 }
 
-fn time_named(rt: &HostRuntime, name: &str, runs: u32) -> anyhow::Result<()> {
+fn time_named(timer: Timer, name: &str) -> anyhow::Result<()> {
     match name {
-        "worked" => time_case(rt, runs, &worked_sheet(), &worked_card()),
-        "grades" => time_case(rt, runs, &table_sheet(), &QuoteTable::over(&table_rows())),
+        "worked" => time_case(timer, &sheet_x(), &card_a()),
+        "grades" => time_case(timer, &table_sheet(), &QuoteTable::over(&table_rows())),
         _ => {
             match Shape::named(name) {
-                Some(shape) => time_case(rt, runs, &shape.sheet(), &shape.card()),
-                None => print_usage(rt),
+                Some(shape) => time_case(timer, &shape.sheet(), &shape.card()),
+                None => print_usage(timer.rt),
             }
         }
     }
@@ -48,9 +50,9 @@ fn run(rt: &HostRuntime) -> anyhow::Result<()> {
     let (Some(name), Some(count)) = (arguments.next(), arguments.next()) else {
         return print_usage(rt);
     };
-    match read_number(count.as_bytes()) {
-        Some(0) | None => print_usage(rt),
-        Some(runs) => time_named(rt, name.as_str(), runs),
+    match read_number(count.as_bytes()).and_then(NonZeroU32::new) {
+        Some(runs) => time_named(Timer { rt, runs }, name.as_str()),
+        None => print_usage(rt),
     }
 }
 

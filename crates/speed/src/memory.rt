@@ -1,8 +1,8 @@
 // The memory that a case needs.
 use cells::span;
 use costs::Cost;
-use model::{Cell, Point};
-use sheets::{MAX_TASKS, Sheet};
+use model::{Cell, Point, PricedSheet};
+use sheets::MAX_TASKS;
 use std::alloc::{AllocError, Global};
 use tariffs::Tariff;
 
@@ -14,30 +14,21 @@ pub(crate) struct Memory<C> {
     pub(crate) plan: [u8; MAX_TASKS],
 }
 
-// So many items, all alike.
-fn repeated<X: Copy>(heap: Global, item: X, count: usize) -> Result<Vec<X>, AllocError> {
-    let mut items = Vec::with_capacity(heap, count)?;
-    for _ in 0..count {
-        items.push(item)?;
+impl<C: Cost> Memory<C> {
+    pub(crate) fn enough<T: Tariff<Cost = C>>(
+        heap: Global,
+        priced: &PricedSheet<T>,
+    ) -> Result<Memory<C>, AllocError> {
+        let width = span(priced) as usize + 1;
+        let size = (priced.sheet.stage_count() + 1) * width;
+        let point = Point {
+            length: 0,
+            cost: C::neutral(),
+        };
+        Ok(Memory {
+            cells: vec![in heap; Cell::of(None); size]?,
+            points: vec![in heap; point; width]?,
+            plan: [0; MAX_TASKS],
+        })
     }
-    Ok(items)
-}
-
-pub(crate) fn memory_for<C: Cost, T: Tariff<Cost = C>>(
-    heap: Global,
-    sheet: &Sheet,
-    tariff: &T,
-) -> Result<Memory<C>, AllocError> {
-    let width = span(sheet, tariff) as usize + 1;
-    let cost = C::neutral();
-    let cell = Cell {
-        reached: false,
-        cost,
-    };
-    let point = Point { length: 0, cost };
-    Ok(Memory {
-        cells: repeated(heap, cell, (sheet.stage_count() + 1) * width)?,
-        points: repeated(heap, point, width)?,
-        plan: [0; MAX_TASKS],
-    })
 }

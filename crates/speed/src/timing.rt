@@ -1,124 +1,136 @@
 // The timing of a case, and what the planner finds in it.
 use crate::amount::Amount;
-use crate::memory::{Memory, memory_for};
-use crate::sums::{cells_sum, plan_sum, points_sum, quoted_times};
+use crate::memory::Memory;
+use crate::sums::{cells_sum, plan_sum, points_sum, times_count};
 use anyhow::anyhow;
 use cells::{fill, span};
-use model::Point;
+use model::{Point, PricedSheet};
 use planner::{budget, deadline, front};
 use sheets::Sheet;
+use std::num::NonZeroU32;
 use std::time::Instant;
 use tariffs::Tariff;
 
-// Prints the nanoseconds since the start, for one of so many runs.
-fn print_time(rt: &HostRuntime, step: &str, start: Instant, runs: u32) -> anyhow::Result<()> {
-    let nanoseconds = start.elapsed(rt)?.as_nanos() / u128::from(runs.max(1));
-    println!(rt; "{step} {nanoseconds}")?;
-    Ok(())
+// How often each step is run, and where its time is printed.
+#[derive(Clone, Copy)]
+pub(crate) struct Timer<'a> {
+    pub(crate) rt: &'a HostRuntime,
+    pub(crate) runs: NonZeroU32,
 }
 
-fn print_answer<C: Amount>(
-    rt: &HostRuntime,
-    question: &str,
-    point: Point<C>,
-    plan: &[u8],
-) -> anyhow::Result<()> {
-    let length = point.length;
-    let cost = point.cost.amount();
-    let sum = plan_sum(plan);
-    println!(rt; "{question} {length} {cost}, plan {sum}")?;
-    Ok(())
-}
-
-fn time_fill<C: Amount, T: Tariff<Cost = C>>(
-    rt: &HostRuntime,
-    runs: u32,
-    sheet: &Sheet,
-    tariff: &T,
-    memory: &mut Memory<C>,
-) -> anyhow::Result<()> {
-    let start = Instant::now(rt)?;
-    for _ in 0..runs {
-        if fill(sheet, tariff, &mut memory.cells).is_err() {
-            return Err(anyhow!("too few cells"));
+impl Timer<'_> {
+    // Prints the nanoseconds of one run of the step, and returns what the last run answered.
+    fn time<A: Drop, F: FnMut() -> anyhow::Result<A>>(
+        self,
+        step: &str,
+        mut run: F,
+    ) -> anyhow::Result<A>
+        requires { F.IsAlwaysCallable run }
+    {
+        let rt = self.rt;
+        let runs = self.runs.get();
+        let start = Instant::now(rt)?;
+        let mut answer = run()?;
+        for _ in 1..runs {
+            answer = run()?;
         }
-    }
-    print_time(rt, "fill", start, runs)?;
-    let times = quoted_times(sheet, tariff);
-    let span = span(sheet, tariff);
-    println!(rt; "times {times}, span {span}")?;
-    let sum = cells_sum(&memory.cells);
-    println!(rt; "cells {sum}")?;
-    Ok(())
-}
-
-// Returns the point in the middle of the front.
-fn time_front<C: Amount, T: Tariff<Cost = C>>(
-    rt: &HostRuntime,
-    runs: u32,
-    sheet: &Sheet,
-    tariff: &T,
-    memory: &mut Memory<C>,
-) -> anyhow::Result<Point<C>> {
-    let mut count = 0;
-    let start = Instant::now(rt)?;
-    for _ in 0..runs {
-        match front(sheet, tariff, &mut memory.cells, &mut memory.points) {
-            Ok(points) => count = points,
-            Err(_) => return Err(anyhow!("the front is refused")),
-        }
-    }
-    print_time(rt, "answer", start, runs)?;
-    let sum = points_sum(&memory.points, count);
-    println!(rt; "front of {count}, points {sum}")?;
-    match memory.points.get(count / 2) {
-        Some(point) => Ok(*point),
-        None => Err(anyhow!("there are no points")),
+        let nanoseconds = start.elapsed(rt)?.as_nanos() / u128::from(runs);
+        println!(rt; "{step} {nanoseconds}")?;
+        Ok(answer)
     }
 }
 
-fn time_budget<C: Amount, T: Tariff<Cost = C>>(
-    rt: &HostRuntime,
-    runs: u32,
-    sheet: &Sheet,
-    tariff: &T,
-    limit: C,
-    memory: &mut Memory<C>,
-) -> anyhow::Result<()> {
-    let mut answer = None;
-    let start = Instant::now(rt)?;
-    for _ in 0..runs {
-        match budget(sheet, tariff, limit, &mut memory.cells, &mut memory.plan) {
-            Ok(point) => answer = Some(point),
-            Err(_) => return Err(anyhow!("the budget is refused")),
-        }
+// A sheet under a tariff, and the memory in which it is planned.
+#[derive(Drop)]
+struct Case<'a, C, T> {
+    timer: Timer<'a>,
+    priced: PricedSheet<'a, T>,
+    memory: Memory<C>,
+}
+
+impl<C: Amount, T: Tariff<Cost = C>> Case<'_, C, T> {
+    fn time_fill(&mut self) -> anyhow::Result<()> {
+        let rt = self.timer.rt;
+        self.timer.time("fill", || {
+            fill(&self.priced, &mut self.memory.cells).map_err(|_| anyhow!("too few cells"))
+        })?;
+        let times = times_count(&self.priced);
+        let span = span(&self.priced);
+        println!(rt; "times {times}, span {span}")?;
+        let sum = cells_sum(&self.memory.cells);
+        println!(rt; "cells {sum}")?;
+        Ok(())
     }
-    print_time(rt, "plan", start, runs)?;
-    match answer {
-        Some(point) => print_answer(rt, "budget", point, &memory.plan),
-        None => Ok(()),
+
+    // Returns the point in the middle of the front.
+    fn time_front(&mut self) -> anyhow::Result<Point<C>> {
+        let rt = self.timer.rt;
+        let count = self.timer.time("answer", || {
+            front(
+                &self.priced,
+                &mut self.memory.cells,
+                &mut self.memory.points,
+            )
+            .map_err(|_| anyhow!("the front is refused"))
+        })?;
+        let points = self.memory.points.get(..count).unwrap_or_default();
+        let sum = points_sum(points);
+        println!(rt; "front of {count}, points {sum}")?;
+        points
+            .get(count / 2)
+            .copied()
+            .ok_or_else(|| anyhow!("there are no points"))
+    }
+
+    fn time_budget(&mut self, limit: C) -> anyhow::Result<()> {
+        let point = self.timer.time("plan", || {
+            budget(
+                &self.priced,
+                limit,
+                &mut self.memory.cells,
+                &mut self.memory.plan,
+            )
+            .map_err(|_| anyhow!("the budget is refused"))
+        })?;
+        self.print_answer("budget", point)
+    }
+
+    fn ask_deadline(&mut self, limit: u32) -> anyhow::Result<()> {
+        let point = deadline(
+            &self.priced,
+            limit,
+            &mut self.memory.cells,
+            &mut self.memory.plan,
+        )
+        .map_err(|_| anyhow!("the deadline is refused"))?;
+        self.print_answer("deadline", point)
+    }
+
+    fn print_answer(&self, question: &str, point: Point<C>) -> anyhow::Result<()> {
+        let rt = self.timer.rt;
+        let length = point.length;
+        let cost = point.cost.amount();
+        let sum = plan_sum(&self.memory.plan);
+        println!(rt; "{question} {length} {cost}, plan {sum}")?;
+        Ok(())
     }
 }
 
 // Times each step on a case. The budget and the deadline are those of the middle of the front.
 pub(crate) fn time_case<C: Amount, T: Tariff<Cost = C>>(
-    rt: &HostRuntime,
-    runs: u32,
+    timer: Timer,
     sheet: &Sheet,
     tariff: &T,
 ) -> anyhow::Result<()> {
-    let mut memory = memory_for(rt.alloc(), sheet, tariff)?;
-    time_fill(rt, runs, sheet, tariff, &mut memory)?;
-    let middle = time_front(rt, runs, sheet, tariff, &mut memory)?;
-    time_budget(rt, runs, sheet, tariff, middle.cost, &mut memory)?;
-    match deadline(
-        sheet,
-        tariff,
-        middle.length,
-        &mut memory.cells,
-        &mut memory.plan,
-    ) {
-        Ok(point) => print_answer(rt, "deadline", point, &memory.plan),
-        Err(_) => Err(anyhow!("the deadline is refused")),
-    }
+    let priced = PricedSheet { sheet, tariff };
+    let memory = Memory::enough(timer.rt.alloc(), &priced)?;
+    let mut case = Case {
+        timer,
+        priced,
+        memory,
+    };
+    case.time_fill()?;
+    let middle = case.time_front()?;
+    case.time_budget(middle.cost)?;
+    case.ask_deadline(middle.length)
 }

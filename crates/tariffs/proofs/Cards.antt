@@ -1,21 +1,10 @@
--- The lines of a card, and what the line at a machine number quotes
-use Rattle.std.proofs.Common.{◌≡◌, ℕ, ◌<◌, ◌≤◌, true, false, cond, not, leb, List, [], ◌∷◌, ◌++◌, length, get_or, is_ok, Some, Ok, Err, ap, ◌∙◌, ⊎_elim, arith}
-use Rattle.std.proofs.lemmas.List.{get_or-take}
-use Rattle.std.proofs.lemmas.Option.{slice_get-get_or}
+-- The lines of a card
+use Rattle.std.proofs.Common.{◌≡◌, ℕ, ◌<◌, ◌≤◌, true, false, cond, not, leb, List, [], ◌∷◌, ◌++◌, length, is_ok, Ok, Err, ap, ◌∙◌, ⊎_elim, arith}
 use Rattle.std.proofs.lemmas.Bool.{cond-true, cond-false, cases_Bool, cases_lt, lt-leb, le-leb}
-use Rattle.std.specs.List.{slice_get}
 use Rattle.refusals.specs.Answer.{Answer, plain}
-use Rattle.work.specs.Work.{work_in_range}
-use Rattle.tariffs.specs.declared.card.RateCard.{RateCard}
 use Rattle.tariffs.specs.declared.line.Line.{Line}
-use Rattle.tariffs.specs.Line.{line, line_in_range, line_quote}
-use Rattle.tariffs.specs.Card.{lines_of, add_answer, lines_after, quote_by, card_quote}
-use Rattle.tariffs.specs.Ranges.{length_lines}
-
-pub quote_at : (card : RateCard) (machine work : ℕ) (d : Line) → machine < card.count → work_in_range work ≡ true → card_quote (lines_of card) machine work ≡ line_quote (get_or card.lines machine d) work
-quote_at card machine work d h good =
-    let here : slice_get (lines_of card) machine ≡ Some (get_or card.lines machine d) = slice_get-get_or (lines_of card) machine d (omega (arith, length_lines card)) ∙ ap Some (get_or-take card.count card.lines machine d h) in
-    cond-true (work_in_range work) _ _ good ∙ ap (λ o. quote_by o work) here
+use Rattle.tariffs.specs.Line.{line, line_in_range}
+use Rattle.tariffs.specs.Card.{add_answer, lines_after}
 
 -- a line in range for a card that is not full
 module _ (lines : List Line) (speed rate : ℕ) (room : length lines < 32) (fine : line_in_range speed rate ≡ true) where

@@ -1,10 +1,7 @@
 -- The first element of a list that passes a test
 use Rattle.std.specs.Prelude.{ℕ, suc, Bool, cond, List, [], ◌∷◌, Some, None, Option}
 use Rattle.std.specs.Option.{option_map}
-
-abbrev pub find : {A : Type 0} → (A → Bool) → List A → Option A
-find passes [] = None
-find passes (x ∷ xs) = cond (passes x) (Some x) (find passes xs)
+pub use Rattle.std.specs.List.{find}
 
 abbrev pub position : {A : Type 0} → (A → Bool) → List A → Option ℕ
 position passes [] = None

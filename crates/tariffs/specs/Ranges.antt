@@ -1,11 +1,11 @@
 -- That the rate card and the quote table keep the ranges of every tariff.
 -- These are proofs. They stand here since a tariff hands them over as a part of what it means.
-use Rattle.std.specs.Prelude.{◌≡◌, ℕ, suc, ◌+◌, ◌*◌, ◌/◌, ◌%◌, ◌≤◌, Bool, true, false, cond, not, ◌||◌, List, [], ◌∷◌, length, is_ok, Some, None, Option, ◌==◌, ◌≢◌, nat_le, nat_lt, refl}
+use Rattle.std.specs.Prelude.{◌≡◌, ℕ, suc, ◌+◌, ◌*◌, ◌/◌, ◌%◌, ◌≤◌, Bool, true, false, cond, not, List, [], ◌∷◌, length, is_ok, Some, None, Option, ◌==◌, nat_le, nat_lt, refl}
 use Rattle.std.proofs.Common.{sym, ap, subst, ◌∙◌, ⊎_elim, arith, lit≤}
 use Rattle.std.proofs.Math.Nat.{div-add-mod}
 use Rattle.std.proofs.lemmas.List.{length-take-le}
-use Rattle.std.proofs.lemmas.Option.{slice_get_past}
-use Rattle.std.proofs.lemmas.Bool.{cond-true, cond-false, cases_lt, cases_Bool, leb-true, ltb-false, eqb-true, and_parts}
+use Rattle.std.proofs.lemmas.Option.{none-some, slice_get_past}
+use Rattle.std.proofs.lemmas.Bool.{cond-true, cond-false, cases_lt, cases_Bool, leb-true, ltb-false, eqb-true, and_parts, or_parts, not-false}
 use Rattle.std.specs.Option.{option_map}
 use Rattle.std.specs.List.{slice_get}
 use Rattle.work.specs.Work.{work_in_range}
@@ -26,20 +26,13 @@ use Rattle.tariffs.specs.Meaning.{Ranged}
 
 -- Options that a test lets through
 
-pub none_some : {A : Type 0} (x : A) → None ≢ Some x
-none_some x e = let z : ◌≡◌ {A = ℕ} 0 1 = cc in omega arith
-
 pub some_through : {A : Type 0} (b : Bool) (o : Option A) (x : A) → cond b o None ≡ Some x → (b ≡ true) × (o ≡ Some x)
 some_through true o x e = (refl, e)
-some_through false o x e = absurd (none_some x e)
+some_through false o x e = absurd (none-some x e)
 
 pub none_through : {A : Type 0} (b : Bool) (o : Option A) → o ≡ None → cond b o None ≡ None
 none_through true o e = e
 none_through false o e = refl
-
-pub or_left_false : (a b : Bool) → (a || b) ≡ false → (a ≡ false) × (b ≡ false)
-or_left_false true b e = absurd (let z : ◌≡◌ {A = ℕ} 0 1 = cc in omega arith)
-or_left_false false b e = (refl, e)
 
 -- The rate card
 
@@ -55,7 +48,7 @@ some_rounded a b p q =
     (cases_lt (a / b) 1)
 
 line_timed : (o : Option Line) (work : ℕ) (q : Quote Cents) → 1 ≤ work → quote_by o work ≡ Some q → (1 ≤ q.minutes) × (q.minutes ≤ 1440)
-line_timed None work q h e = absurd (none_some q e)
+line_timed None work q h e = absurd (none-some q e)
 line_timed (Some l) work q h e =
     let t = some_through (nat_le (line_time l work) 1440) _ q e in
     let same : line_time l work ≡ q.minutes = cc t.1 in
@@ -81,32 +74,28 @@ record Good (r : Row) : Type 0 where
   work : work_in_range r.work ≡ true
   time : (1 ≤ r.minutes) × (r.minutes ≤ 1440)
 
-not_false : (b : Bool) → not b ≡ false → b ≡ true
-not_false true e = refl
-not_false false e = sym e
-
 good : (r : Row) → bad_row r ≡ false → Good r
 good r e =
-    let m = or_left_false (nat_lt 31 r.machine) _ e in
-    let w = or_left_false (not (work_in_range r.work)) _ m.1 in
-    let s = or_left_false (nat_lt r.minutes 1) _ w.1 in
-    let t = or_left_false (nat_lt 1440 r.minutes) _ s.1 in
+    let m = or_parts (nat_lt 31 r.machine) _ e in
+    let w = or_parts (not (work_in_range r.work)) _ m.1 in
+    let s = or_parts (nat_lt r.minutes 1) _ w.1 in
+    let t = or_parts (nat_lt 1440 r.minutes) _ s.1 in
     record {
       machine = ltb-false _ _ m.0;
-      work = not_false _ w.0;
+      work = not-false _ w.0;
       time = (ltb-false _ _ s.0, ltb-false _ _ t.0);
     }
 
 mapped_none : {A B : Type 0} (f : A → B) (o : Option A) → option_map f o ≡ None → o ≡ None
 mapped_none f None e = refl
-mapped_none f (Some x) e = absurd (none_some (f x) (sym e))
+mapped_none f (Some x) e = absurd (none-some (f x) (sym e))
 
 -- what a found row has, among rows of which none is bad
 found_good : (rows : List Row) (passes : Row → Bool) (r : Row) → position bad_row rows ≡ None → find passes rows ≡ Some r → Good r × (passes r ≡ true)
-found_good [] passes r none e = absurd (none_some r e)
+found_good [] passes r none e = absurd (none-some r e)
 found_good (x ∷ xs) passes r none e =
     ⊎_elim
-    (λ bad. absurd (none_some {A = ℕ} 0 (sym none ∙ cond-true (bad_row x) _ _ bad)))
+    (λ bad. absurd (none-some {A = ℕ} 0 (sym none ∙ cond-true (bad_row x) _ _ bad)))
     (λ fine.
     ⊎_elim
     (λ here.
@@ -138,7 +127,7 @@ quoted rows machine work q e =
     go (find (λ r. bears r machine work) rows) refl (none_bad rows (position bad_row rows) refl t.0) t.1
   where
     go : (o : Option Row) → find (λ r. bears r machine work) rows ≡ o → position bad_row rows ≡ None → option_map row_quote o ≡ Some q → Quoted rows machine work q
-    go None f none e = absurd (none_some q e)
+    go None f none e = absurd (none-some q e)
     go (Some r) f none e =
         let g = found_good rows (λ r. bears r machine work) r none f in
         record { row = r; fine = g.0; for = g.1; same = cc }

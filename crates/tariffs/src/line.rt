@@ -4,7 +4,7 @@ ghost use Rattle.std.specs.Prelude.{◌≤◌};
 pub mod quote;
 
 // A machine's speed, in units a minute, and its rate, in cents an hour.
-#[derive(Clone, Copy)]
+#[derive(Clone, Copy, PartialEq, Eq, Debug)]
 pub struct Line {
     pub(crate) speed: u32,
     pub(crate) rate: u32,

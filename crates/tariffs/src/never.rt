@@ -1,7 +1,7 @@
 // The tariff that never quotes.
 ghost use Rattle.tariffs.specs.Never.{never_meaning, never_ranged};
 
-use crate::{Quote, Tariff};
+use crate::{MAX_MACHINES, Quote, Tariff};
 use costs::Cost;
 use std::marker::PhantomData;
 
@@ -25,7 +25,7 @@ impl<C: Cost> Tariff for NeverQuotes<C> {
     ghost ranged = { never_ranged };
 
     fn machines(&self) -> usize {
-        32
+        MAX_MACHINES
     }
 
     fn quote(&self, _machine: usize, _work: u32) -> Option<Quote<C>> {

@@ -1,6 +1,7 @@
 // Why a tariff's calls are refused.
 ghost use Rattle.tariffs.specs.Refusal.{card_told, row_told};
 
+use crate::table::MAX_ROWS;
 use refusals::Refusal;
 
 // A line that a rate card does not take.
@@ -46,7 +47,7 @@ impl Refusal for RowRefusal {
     fn carried(&self) -> Option<usize> {
         match self {
             RowRefusal::Bad(row) => Some(*row),
-            RowRefusal::TooMany => Some(256),
+            RowRefusal::TooMany => Some(MAX_ROWS),
         }
     }
 }

@@ -1,7 +1,7 @@
 // The rows of a quote table.
 
 // A row as the caller wrote it: any numbers.
-#[derive(Clone, Copy)]
+#[derive(Clone, Copy, PartialEq, Eq, Debug)]
 pub struct Row {
     pub machine: u32,
     pub work: u32,

@@ -5,6 +5,9 @@ ghost use Rattle.tariffs.specs.Meaning.{Meaning, Ranged};
 use crate::Quote;
 use costs::Cost;
 
+// The most machines that a tariff has.
+pub const MAX_MACHINES: usize = 32;
+
 // A tariff: so many machines, and what each quotes for a work. It names the cost kind in which it charges.
 //
 // Its meaning is fixed: a question repeated gets the same quote, and none alters it or is refused.

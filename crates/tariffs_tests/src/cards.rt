@@ -1,14 +1,13 @@
 // Charges, rate cards, and the tariff that never quotes.
 use costs::Cents;
 use refusals::Refusal;
-use tariffs::{CardRefusal, NeverQuotes, RateCard, Tariff, charge_for};
+use tariffs::{CardRefusal, NeverQuotes, Quote, RateCard, Tariff, charge_for};
 
-// A card's quote as minutes and cents.
-fn quoted(card: &RateCard, machine: usize, work: u32) -> Option<(u32, u64)> {
-    match card.quote(machine, work) {
-        Some(quote) => Some((quote.minutes, quote.cost.amount())),
-        None => None,
-    }
+fn quote(minutes: u32, cents: u64) -> Option<Quote<Cents>> {
+    Some(Quote {
+        minutes,
+        cost: Cents::new(cents),
+    })
 }
 
 #[test]
@@ -41,18 +40,18 @@ fn a_day_is_the_longest_hire(rt: HostRuntime) {
     }
     let cases = [
         (0, 1_000_000, None),
-        (1, 1_000_000, Some((1439, 2399))),
-        (2, 1_000_000, Some((100, 1_666_667))),
-        (3, 1440, Some((1440, 0))),
+        (1, 1_000_000, quote(1439, 2399)),
+        (2, 1_000_000, quote(100, 1_666_667)),
+        (3, 1440, quote(1440, 0)),
         (3, 1441, None),
         (2, 0, None),
-        (2, 1, Some((1, 16_667))),
+        (2, 1, quote(1, 16_667)),
         (2, 1_000_001, None),
         (4, 1, None),
         (usize::MAX, 1, None),
     ];
-    for (machine, work, quote) in cases {
-        assert_eq!(rt; quoted(&card, machine, work), quote);
+    for (machine, work, expected) in cases {
+        assert_eq!(rt; card.quote(machine, work), expected);
     }
 }
 
@@ -68,7 +67,7 @@ fn a_line_out_of_range_leaves_the_card(rt: HostRuntime) {
     ] {
         assert_eq!(rt; card.add(speed, rate), Err(CardRefusal::OutOfRange));
         assert_eq!(rt; card.machines(), 1);
-        assert_eq!(rt; quoted(&card, 0, 100), Some((5, 125)));
+        assert_eq!(rt; card.quote(0, 100), quote(5, 125));
     }
     assert_eq!(rt; CardRefusal::OutOfRange.number(), 5);
 }
@@ -82,7 +81,7 @@ fn a_full_card_takes_no_line(rt: HostRuntime) {
     assert_eq!(rt; card.add(10, 100), Err(CardRefusal::Full));
     assert_eq!(rt; card.add(0, 100), Err(CardRefusal::Full));
     assert_eq!(rt; card.machines(), 32);
-    assert_eq!(rt; quoted(&card, 31, 600), Some((60, 31)));
+    assert_eq!(rt; card.quote(31, 600), quote(60, 31));
     assert_eq!(rt; CardRefusal::Full.number(), 4);
     assert_eq!(rt; CardRefusal::Full.carried(), None);
 }
@@ -91,6 +90,6 @@ fn a_full_card_takes_no_line(rt: HostRuntime) {
 fn nothing_is_quoted_by_the_tariff_that_never_quotes(rt: HostRuntime) {
     let never: NeverQuotes<Cents> = NeverQuotes::new();
     assert_eq!(rt; never.machines(), 32);
-    assert!(rt; never.quote(0, 1).is_none());
-    assert!(rt; never.quote(31, 1_000_000).is_none());
+    assert_eq!(rt; never.quote(0, 1), None);
+    assert_eq!(rt; never.quote(31, 1_000_000), None);
 }

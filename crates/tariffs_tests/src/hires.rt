@@ -5,16 +5,9 @@ use std::test::Fail;
 use tariffs::Tariff;
 use texts::TooShort;
 
-fn refusal(work: u32, terms: &[Terms]) -> Option<HireRefusal> {
-    match read_hire(work, terms) {
-        Ok(_) => None,
-        Err(refusal) => Some(refusal),
-    }
-}
-
 #[test]
 fn quotes_come_in_the_order_of_the_terms(rt: HostRuntime) -> Result<(), Fail> {
-    let Ok(hire) = read_hire(
+    let hire = read_hire(
         1_000_000,
         &[
             Terms {
@@ -26,9 +19,8 @@ fn quotes_come_in_the_order_of_the_terms(rt: HostRuntime) -> Result<(), Fail> {
                 rate: 100,
             },
         ],
-    ) else {
-        return Err(Fail::new("refused"));
-    };
+    )
+    .map_err(|_| Fail::new("refused"))?;
     let mut memory = [b'.'; 13];
     assert_eq!(rt; hire.card.machines(), 2);
     assert_eq!(rt; write_quote(&hire.card, 0, hire.work, &mut memory), Ok(7));
@@ -53,14 +45,14 @@ fn a_refusal_names_its_argument(rt: HostRuntime) {
         speed: 0,
         rate: 600,
     };
-    assert_eq!(rt; refusal(0, &[idle]), Some(HireRefusal::Work));
-    assert_eq!(rt; refusal(1_000_001, &[fine]), Some(HireRefusal::Work));
+    assert_eq!(rt; read_hire(0, &[idle]), Err(HireRefusal::Work));
+    assert_eq!(rt; read_hire(1_000_001, &[fine]), Err(HireRefusal::Work));
     assert_eq!(rt;
-        refusal(1, &[fine, idle, idle]),
-        Some(HireRefusal::OutOfRange(4))
+        read_hire(1, &[fine, idle, idle]),
+        Err(HireRefusal::OutOfRange(4))
     );
-    assert_eq!(rt; refusal(1, &[fine; 32]), None);
-    assert_eq!(rt; refusal(1, &[fine; 33]), Some(HireRefusal::FullCard(66)));
+    assert!(rt; read_hire(1, &[fine; 32]).is_ok());
+    assert_eq!(rt; read_hire(1, &[fine; 33]), Err(HireRefusal::FullCard(66)));
 }
 
 #[test]

@@ -1,7 +1,7 @@
 // Quote tables.
 use costs::Grade;
 use refusals::Refusal;
-use tariffs::{QuoteTable, Row, RowRefusal, Tariff, check_rows};
+use tariffs::{Quote, QuoteTable, Row, RowRefusal, Tariff, check_rows};
 
 fn row(machine: u32, work: u32, minutes: u32, grade: u32) -> Row {
     Row {
@@ -12,12 +12,11 @@ fn row(machine: u32, work: u32, minutes: u32, grade: u32) -> Row {
     }
 }
 
-// A table's quote as minutes and grade.
-fn quoted(rows: &[Row], machine: usize, work: u32) -> Option<(u32, u8)> {
-    match QuoteTable::over(rows).quote(machine, work) {
-        Some(quote) => Some((quote.minutes, quote.cost.number())),
-        None => None,
-    }
+fn quote(minutes: u32, grade: u32) -> Option<Quote<Grade>> {
+    Some(Quote {
+        minutes,
+        cost: Grade::new(grade),
+    })
 }
 
 #[test]
@@ -28,16 +27,17 @@ fn the_first_row_for_a_machine_and_work_quotes(rt: HostRuntime) {
         row(2, 60, 2, 8),
         row(2, 100, 3, 15),
     ];
-    for (machine, work, quote) in [
-        (2, 60, Some((1, 9))),
-        (2, 100, Some((3, 15))),
+    let table = QuoteTable::over(&rows);
+    for (machine, work, expected) in [
+        (2, 60, quote(1, 9)),
+        (2, 100, quote(3, 15)),
         (0, 60, None),
         (32, 60, None),
     ] {
-        assert_eq!(rt; quoted(&rows, machine, work), quote);
+        assert_eq!(rt; table.quote(machine, work), expected);
     }
-    assert_eq!(rt; QuoteTable::over(&rows).machines(), 32);
-    assert_eq!(rt; quoted(&[], 0, 60), None);
+    assert_eq!(rt; table.machines(), 32);
+    assert_eq!(rt; QuoteTable::over(&[]).quote(0, 60), None);
 }
 
 #[test]
@@ -65,18 +65,18 @@ fn a_bad_row_behind_a_good_one_silences_the_table(rt: HostRuntime) {
     assert_eq!(rt; check_rows(&rows), Err(RowRefusal::Bad(1)));
     assert_eq!(rt; RowRefusal::Bad(1).number(), 6);
     assert_eq!(rt; RowRefusal::Bad(1).carried(), Some(1));
-    assert_eq!(rt; quoted(&rows, 0, 60), None);
-    assert_eq!(rt; quoted(&rows[0..1], 0, 60), Some((6, 1)));
+    assert_eq!(rt; QuoteTable::over(&rows).quote(0, 60), None);
+    assert_eq!(rt; QuoteTable::over(&rows[0..1]).quote(0, 60), quote(6, 1));
 }
 
 #[test]
 fn at_most_256_rows(rt: HostRuntime) {
     let mut rows = [row(0, 60, 6, 1); 257];
     assert_eq!(rt; check_rows(&rows[0..256]), Ok(()));
-    assert_eq!(rt; quoted(&rows[0..256], 0, 60), Some((6, 1)));
+    assert_eq!(rt; QuoteTable::over(&rows[0..256]).quote(0, 60), quote(6, 1));
     assert_eq!(rt; check_rows(&rows), Err(RowRefusal::TooMany));
     assert_eq!(rt; RowRefusal::TooMany.carried(), Some(256));
-    assert_eq!(rt; quoted(&rows, 0, 60), None);
+    assert_eq!(rt; QuoteTable::over(&rows).quote(0, 60), None);
     rows[256] = row(0, 60, 0, 1);
     assert_eq!(rt; check_rows(&rows), Err(RowRefusal::Bad(256)));
 }

@@ -1,6 +1,6 @@
 -- A line taken word by word
-use Rattle.std.proofs.Common.{◌≡◌, ℕ, ◌+◌, ◌<◌, ◌≤◌, List, [], ◌∷◌, ◌++◌, length, get_or, drop, sym, ap, ◌∙◌, append_assoc, arith, length-append}
-use Rattle.std.proofs.lemmas.List.{at_drop_more, at_drop_all, append-nil}
+use Rattle.std.proofs.Common.{◌≡◌, ℕ, ◌+◌, ◌<◌, List, [], ◌∷◌, ◌++◌, length, get_or, drop, sym, ap, ◌∙◌, append_assoc}
+use Rattle.std.proofs.lemmas.List.{at_drop_more}
 use Rattle.texts.specs.declared.word.Word.{Word}
 use Rattle.texts.specs.Line.{word_text, separator, line}
 use Rattle.texts.specs.Put.{Put}
@@ -9,21 +9,9 @@ use Rattle.texts.proofs.Puts.{put_then}
 pub separator_within : (words : List Word) (i : ℕ) (d : Word) → i < length words → separator (drop i words) ≡ 32
 separator_within words i d h = at_drop_more separator words i d h
 
-pub separator_last : (words : List Word) (i : ℕ) → length words ≤ i → separator (drop i words) ≡ 10
-separator_last words i h = at_drop_all separator words i h
-
 module _ (words : List Word) (i : ℕ) (d : Word) (h : i < length words) where
   pub line_more : line (drop i words) ≡ word_text (get_or words i d) ++ (separator (drop (i + 1) words) ∷ line (drop (i + 1) words))
   line_more = at_drop_more line words i d h
-
-  pub length_line_more : length (line (drop i words)) ≡ length (word_text (get_or words i d)) + 1 + length (line (drop (i + 1) words))
-  length_line_more =
-      let e = ap length line_more in
-      let l = length-append (word_text (get_or words i d)) (separator (drop (i + 1) words) ∷ line (drop (i + 1) words)) in
-      omega arith
-
-pub length_line_all : (words : List Word) (i : ℕ) → length words ≤ i → length (line (drop i words)) ≡ 0
-length_line_all words i h = at_drop_all (λ ws. length (line ws)) words i h
 
 -- memory that holds the words before a place as far as they have come
 pub record Begun (words : List Word) (was memory : List ℕ) (i end : ℕ) : Type 0 where
@@ -41,14 +29,3 @@ begun_more words was memory next last i end behind after d h begun word separate
       ∙ ap (λ l. begun.front ++ l) (sym (line_more words i d h))
       ∙ begun.left;
 }
-
-pub begun_room : (words : List Word) (was memory : List ℕ) (i end : ℕ) → Begun words was memory i end → end + length (line (drop i words)) ≡ length (line words)
-begun_room words was memory i end begun =
-    let e = ap length begun.left in
-    let l = length-append begun.front (line (drop i words)) in
-    let p = begun.put.ends in
-    omega arith
-
-pub begun_all : (words : List Word) (was memory : List ℕ) (i end : ℕ) → length words ≤ i → (begun : Begun words was memory i end) → begun.front ≡ line words
-begun_all words was memory i end h begun =
-    sym (append-nil begun.front) ∙ ap (λ l. begun.front ++ l) (sym (at_drop_all line words i h)) ∙ begun.left

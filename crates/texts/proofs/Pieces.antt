@@ -1,6 +1,5 @@
 -- A text put piece by piece
-use Rattle.std.proofs.Common.{◌≡◌, ℕ, ◌+◌, ◌<◌, ◌≤◌, List, [], ◌++◌, length, Ok, Err, Result, sym, refl, ap, ◌∙◌, subst, ⊎_elim, append_assoc, arith, length-append}
-use Rattle.std.proofs.lemmas.List.{append-nil}
+use Rattle.std.proofs.Common.{◌≡◌, ℕ, ◌+◌, ◌<◌, ◌≤◌, List, [], ◌++◌, length, Ok, Err, Result, sym, refl, ap, ◌∙◌, ⊎_elim, append_assoc, arith, length-append}
 use Rattle.std.proofs.lemmas.Bool.{cases_lt}
 use Rattle.refusals.specs.Answer.{Answer, answer_of}
 use Rattle.texts.specs.Put.{Put}
@@ -8,7 +7,7 @@ use Rattle.texts.specs.TooShort.{too_short_told}
 use Rattle.texts.specs.Write.{write_answer, write_after}
 use Rattle.texts.specs.declared.too_short.TooShort.{TooShort}
 use Rattle.texts.specs.Putting.{Puts}
-use Rattle.texts.proofs.Puts.{put_none, put_then, put_same, put_answer, put_after, whole_put, fits_answer, fits_after, short_answer}
+use Rattle.texts.proofs.Puts.{put_none, put_then, put_answer, put_after, whole_put, fits_answer, fits_after, short_answer}
 
 -- memory that holds the text from a place on, up to what is left of it
 pub record Begun (was : List ℕ) (from : ℕ) (text memory : List ℕ) (end : ℕ) (left : List ℕ) : Type 0 where
@@ -34,10 +33,6 @@ module _ (was : List ℕ) (from : ℕ) (text memory : List ℕ) (end : ℕ) (lef
     parted = ap (λ l. begun.front ++ l) (sym e) ∙ begun.parted;
   }
 
-  pub begun_all : left ≡ [] → Put was from text memory end
-  begun_all e =
-      put_same _ _ _ _ _ _ (sym (append-nil begun.front) ∙ ap (λ l. begun.front ++ l) (sym e) ∙ begun.parted) begun.put
-
   -- what is left does not fit where a piece of it does not
   pub begun_short : (piece left' : List ℕ) → left ≡ piece ++ left' → length memory < end + length piece → length was < from + length text
   begun_short piece left' e short =
@@ -59,9 +54,6 @@ puts_then was mid after p q at end (Err short) first second =
     let l = length-append p q in
     omega (arith, first.ends, first.long)
 
-pub puts_same : (was after p q : List ℕ) (at : ℕ) (r : Result ℕ TooShort) → p ≡ q → Puts was at p after r → Puts was at q after r
-puts_same was after p q at r e h = let P : List ℕ → Type 0 = λ l. Puts was at l after r in subst P e h
-
 -- a text that fits, put at the start, is written
 pub puts_written : (text was after : List ℕ) (r : Result ℕ TooShort) → length text ≤ length was → Puts was 0 text after r → (answer_of too_short_told r ≡ write_answer text was) × (after ≡ write_after text was)
 puts_written text was after (Ok end) fits put = (put_answer text was after end fits put, put_after text was after end fits put)
@@ -71,7 +63,7 @@ puts_written text was after (Err short) fits put = absurd (omega arith)
 pub written_puts : (text was after : List ℕ) (r : Result ℕ TooShort) → answer_of too_short_told r ≡ write_answer text was → after ≡ write_after text was → Puts was 0 text after r
 written_puts text was after (Ok end) answered left =
     ⊎_elim
-    (λ short. let refused = short_answer text was short in let z : ◌≡◌ {A = ℕ} 0 1 = cc in absurd (omega arith))
+    (λ short. let refused = short_answer text was short in cc)
     (λ fits.
     let given : ◌≡◌ {A = Answer ℕ} (Ok end) (Ok (length text)) = answered ∙ fits_answer text was fits in
     let end_is : end ≡ length text = cc in
@@ -80,5 +72,5 @@ written_puts text was after (Ok end) answered left =
 written_puts text was after (Err none) answered left =
     ⊎_elim
     (λ short. omega arith)
-    (λ fits. let given = fits_answer text was fits in let z : ◌≡◌ {A = ℕ} 0 1 = cc in absurd (omega arith))
+    (λ fits. let given = fits_answer text was fits in cc)
     (cases_lt (length was) (length text))

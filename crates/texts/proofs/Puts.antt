@@ -33,6 +33,13 @@ put_then xs ys zs p q i j k a b = record {
 pub put_same : (xs ys p q : List ℕ) (i j : ℕ) → p ≡ q → Put xs i p ys j → Put xs i q ys j
 put_same xs ys p q i j e h = let P : List ℕ → Type 0 = λ l. Put xs i l ys j in subst P e h
 
+-- a piece put within the memory ends within it
+pub put_within : (xs ys p : List ℕ) (i j : ℕ) → i ≤ length xs → Put xs i p ys j → j ≤ length ys
+put_within xs ys p i j h put =
+    let whole : min j (length ys) ≡ min i (length xs) + length p =
+    sym (length-take j ys) ∙ ap length put.front ∙ length-append (take i xs) p ∙ ap (λ n. n + length p) (length-take i xs) in
+    omega (arith, put.ends)
+
 -- a part of the memory filled with a piece of its length
 pub put_part : (xs ys : List ℕ) (i n : ℕ) → n ≡ length ys → i + n ≤ length xs → Put xs i ys (put_mid i (i + n - i) xs ys) (i + n)
 put_part xs ys i n e h = record {
@@ -80,9 +87,6 @@ module _ (text was after : List ℕ) (end : ℕ) (fits : length text ≤ length 
 module _ (text was : List ℕ) (short : length was < length text) where
   pub short_answer : ◌≡◌ {A = Answer ℕ} (Err (plain 8)) (write_answer text was)
   short_answer = rw (lt-ltb (length was) (length text) short) refl
-
-  pub short_after : was ≡ write_after text was
-  short_after = rw (lt-ltb (length was) (length text) short) refl
 
 -- a text put at the start of a part that begins at a place is put at that place
 pub part_put : (was text part : List ℕ) (at n : ℕ) → at ≤ length was → Put (take (length was - at) (drop at was)) 0 text part n → Put was at text (put_mid at (length was - at) was part) (at + n)

@@ -1,11 +1,9 @@
 // Lines of words.
 ghost use Rattle.std.specs.Prelude.{◌≡◌, ◌+◌, ◌<◌, ◌≤◌, length, drop};
-ghost use Rattle.refusals.specs.Answer.{answer_of};
 ghost use Rattle.texts.specs.Line.{word_text, separator, line};
 ghost use Rattle.texts.specs.Put.{Put};
 ghost use Rattle.texts.specs.Room.{room_behind};
-ghost use Rattle.texts.specs.TooShort.{too_short_told};
-ghost use Rattle.texts.specs.Write.{write_answer, write_after};
+ghost use Rattle.texts.specs.Write.{Writes};
 
 use crate::digits::{number_len, put_byte, put_digits};
 use crate::{TooShort, Word};
@@ -27,8 +25,8 @@ fn word_len(word: Word) -> usize
 {
     match word {
         Word::Number(n) => number_len(n),
-        Word::NoQuote => 4,
-        Word::Refused => 7,
+        Word::NoQuote => b"none".len(),
+        Word::Refused => b"refused".len(),
     }
 }
 
@@ -50,11 +48,7 @@ pub fn line_room(words: &[Word], room: usize) -> Option<usize>
 {
     let mut left = room;
     for word in words {
-        let needed = word_len(*word) + 1;
-        if left < needed {
-            return None;
-        }
-        left -= needed;
+        left = left.checked_sub(word_len(*word) + 1)?;
     }
     Some(left)
 }
@@ -82,11 +76,8 @@ fn put_words(words: &[Word], memory: &mut [u8]) -> usize
 
 // Writes the words as a line at the start of the memory, and returns how many bytes that took.
 pub fn write_line(words: &[Word], memory: &mut [u8]) -> Result<usize, TooShort>
-    ensures answer { answer_of too_short_told result ≡ write_answer (line words.now) memory.old }
-    ensures after { memory.new ≡ write_after (line words.now) memory.old }
+    ensures { Writes (line words.now) memory.old memory.new result }
 {
-    if line_room(words, memory.len()).is_none() {
-        return Err(TooShort);
-    }
+    line_room(words, memory.len()).ok_or(TooShort)?;
     Ok(put_words(words, memory))
 }

@@ -1,28 +1,19 @@
 // Numbers as decimal text.
 ghost use Rattle.std.specs.Prelude.{◌≡◌, ◌+◌, ◌-◌, ◌*◌, min, decimal};
-ghost use Rattle.refusals.specs.Answer.{answer_of};
-ghost use Rattle.texts.specs.Number.{is_digit, number_in};
-ghost use Rattle.texts.specs.TooShort.{too_short_told};
-ghost use Rattle.texts.specs.Write.{write_answer, write_after};
+ghost use Rattle.texts.specs.Number.{number_in};
+ghost use Rattle.texts.specs.Write.{Writes};
 
 use crate::TooShort;
 use crate::digits::{number_len, put_digits};
 
 // Writes a number in plain decimal digits at the start of the memory, and returns how many bytes that took.
 pub fn write_number(n: u64, memory: &mut [u8]) -> Result<usize, TooShort>
-    ensures answer { answer_of too_short_told result ≡ write_answer (decimal n) memory.old }
-    ensures after { memory.new ≡ write_after (decimal n) memory.old }
+    ensures { Writes (decimal n) memory.old memory.new result }
 {
     if memory.len() < number_len(n) {
         return Err(TooShort);
     }
     Ok(put_digits(memory, 0, n))
-}
-
-fn is_digit(byte: u8) -> bool
-    ensures { result ≡ is_digit byte }
-{
-    b'0' <= byte && byte <= b'9'
 }
 
 // The value of a number followed by one more digit, held at the greatest.
@@ -39,15 +30,8 @@ fn with_digit(value: u32, byte: u8) -> u32
 pub fn read_number(text: &[u8]) -> Option<u32>
     ensures { result ≡ number_in text.now }
 {
-    if text.is_empty() {
+    if text.is_empty() || !text.iter().all(u8::is_ascii_digit) {
         return None;
     }
-    let mut value = 0;
-    for byte in text {
-        if !is_digit(*byte) {
-            return None;
-        }
-        value = with_digit(value, *byte);
-    }
-    Some(value)
+    Some(text.iter().fold(0, |value, byte| with_digit(value, *byte)))
 }

@@ -10,5 +10,5 @@ pub const MAX_WORK: u32 = 1_000_000;
 pub fn work_in_range(work: u32) -> bool
     ensures { result ≡ work_in_range work }
 {
-    1 <= work && work <= MAX_WORK
+    (1..=MAX_WORK).contains(&work)
 }

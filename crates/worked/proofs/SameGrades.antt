@@ -1,5 +1,5 @@
 -- Points of one length and one number of a grade are one point
-use Rattle.std.proofs.Common.{◌≡◌, ℕ, List, [], ◌∷◌, map, Ok, Err, refl, ap, arith}
+use Rattle.std.proofs.Common.{◌≡◌, ℕ, List, [], ◌∷◌, map, Ok, Err, refl, ap, rules}
 use Rattle.refusals.specs.Answer.{Answer}
 use Rattle.costs.specs.Same.{same_grade}
 use Rattle.costs.specs.declared.grade.Grade.{Grade}
@@ -14,12 +14,9 @@ same_point p q e i = record { length = (e i).0; cost = same_grade p.cost q.cost 
 
 pub same_points : (ps qs : List (Point Grade)) → map shown ps ≡ map shown qs → ps ≡ qs
 same_points [] [] e = refl
-same_points [] (q ∷ qs) e = let z : ◌≡◌ {A = ℕ} 0 1 = cc in absurd (omega arith)
-same_points (p ∷ ps) [] e = let z : ◌≡◌ {A = ℕ} 0 1 = cc in absurd (omega arith)
-same_points (p ∷ ps) (q ∷ qs) e =
-    let s : shown p ≡ shown q = cc in
-    let r : map shown ps ≡ map shown qs = cc in
-    rw (same_point p q s, same_points ps qs r) refl
+same_points [] (q ∷ qs) e = absurd (search rules)
+same_points (p ∷ ps) [] e = absurd (search rules)
+same_points (p ∷ ps) (q ∷ qs) e = rw (same_point p q (search rules), same_points ps qs (search rules)) refl
 
 -- an answer by its numbers
 abbrev pub told : Answer (Point Grade) → Answer (ℕ × ℕ)
@@ -27,5 +24,5 @@ told (Ok p) = Ok (shown p)
 told (Err refused) = Err refused
 
 pub same_answer : (answer : Answer (Point Grade)) (p : Point Grade) → told answer ≡ Ok (shown p) → answer ≡ Ok p
-same_answer (Ok q) p e = let s : shown q ≡ shown p = cc in ap Ok (same_point q p s)
-same_answer (Err refused) p e = let z : ◌≡◌ {A = ℕ} 0 1 = cc in absurd (omega arith)
+same_answer (Ok q) p e = ap Ok (same_point q p (search rules))
+same_answer (Err refused) p e = absurd (search rules)

@@ -2,7 +2,7 @@
 ghost use Rattle.std.specs.Prelude.{◌≡◌};
 ghost use Rattle.sheets.specs.History.{Known};
 ghost use Rattle.tariffs.specs.Card.{lines_of};
-ghost use Rattle.worked.specs.Samples.{calls_X, lines_A, row, rows_G};
+ghost use Rattle.worked.specs.Samples.{calls_X, lines_A, rows_G};
 
 use sheets::{Call, Sheet};
 use tariffs::{RateCard, Row};
@@ -28,21 +28,10 @@ pub fn card_a() -> RateCard
     ensures { lines_of result ≡ lines_A }
 {
     let mut card = RateCard::new();
-    let _ = card.add(10, 600);
-    let _ = card.add(20, 1500);
-    let _ = card.add(60, 6000);
-    card
-}
-
-fn row(machine: u32, work: u32, minutes: u32, grade: u32) -> Row
-    ensures { result ≡ row machine work minutes grade }
-{
-    Row {
-        machine,
-        work,
-        minutes,
-        grade,
+    for (speed, rate) in [(10, 600), (20, 1500), (60, 6000)] {
+        let _ = card.add(speed, rate);
     }
+    card
 }
 
 // Rows for both works of the sheet.
@@ -50,10 +39,16 @@ pub fn rows_g() -> [Row; 5]
     ensures { result ≡ rows_G }
 {
     [
-        row(0, 100, 10, 1),
-        row(1, 100, 5, 4),
-        row(0, 60, 6, 1),
-        row(1, 60, 3, 1),
-        row(2, 60, 1, 9),
+        (0, 100, 10, 1),
+        (1, 100, 5, 4),
+        (0, 60, 6, 1),
+        (1, 60, 3, 1),
+        (2, 60, 1, 9),
     ]
+    .map(|(machine, work, minutes, grade)| Row {
+        machine,
+        work,
+        minutes,
+        grade,
+    })
 }

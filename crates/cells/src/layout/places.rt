@@ -5,17 +5,17 @@ ghost use Rattle.cells.specs.Layout.{layout_of, place_in, size};
 
 use crate::{Layout, span};
 use costs::Cost;
-use sheets::Sheet;
+use model::PricedSheet;
 use tariffs::Tariff;
 
 impl Layout {
     // The layout of the cells for a sheet under a tariff.
-    pub(crate) fn of<T: Tariff>(sheet: &Sheet, tariff: &T) -> Layout
-        ensures { result ≡ layout_of (T.Tariff.meaning tariff.now) (book sheet.now) }
+    pub(crate) fn of<T: Tariff>(priced: &PricedSheet<T>) -> Layout
+        ensures { result ≡ layout_of (T.Tariff.meaning priced.now.tariff.now) (book priced.now.sheet.now) }
     {
         Layout {
-            stages: sheet.stage_count() as u32,
-            width: span(sheet, tariff) + 1,
+            stages: priced.sheet.stage_count() as u32,
+            width: span(priced) + 1,
         }
     }
 

@@ -13,12 +13,8 @@ impl Cents {
     pub fn new(amount: u64) -> Cents
         ensures { result ≡ cents amount }
     {
-        if amount <= Self::GREATEST {
-            Cents { value: amount }
-        } else {
-            Cents {
-                value: Self::GREATEST,
-            }
+        Cents {
+            value: amount.min(Self::GREATEST),
         }
     }
 
@@ -32,11 +28,11 @@ impl Cents {
 impl Cost for Cents {
     ghost kind = { cents_kind };
 
-    ghost total = { first_of (Prim.search rules, Prim.grind (arith, Self.row.coded.inj)) };
+    ghost total = { Prim.search rules };
 
     ghost antisymmetric = { λ a b p q. same_cents a b (Prim.search rules) };
 
-    ghost transitive = { first_of (Prim.search rules, Prim.grind (arith, Self.row.coded.inj)) };
+    ghost transitive = { Prim.search rules };
 
     ghost associative = { λ a b c. same_cents _ _ (omega arith) };
 
@@ -44,7 +40,7 @@ impl Cost for Cents {
 
     ghost identity = { λ a. same_cents _ _ (omega arith) };
 
-    ghost monotone = { first_of (Prim.search rules, Prim.grind (arith, Self.row.coded.inj)) };
+    ghost monotone = { Prim.search rules };
 
     fn neutral() -> Cents {
         Cents::new(0)
@@ -55,6 +51,6 @@ impl Cost for Cents {
     }
 
     fn at_most(self, other: Cents) -> bool {
-        self.value <= other.value
+        self <= other
     }
 }

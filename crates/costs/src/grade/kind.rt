@@ -13,14 +13,8 @@ impl Grade {
     pub fn new(number: u32) -> Grade
         ensures { result ≡ grade number }
     {
-        if number <= u32::from(Self::GREATEST) {
-            Grade {
-                value: number as u8,
-            }
-        } else {
-            Grade {
-                value: Self::GREATEST,
-            }
+        Grade {
+            value: number.min(u32::from(Self::GREATEST)) as u8,
         }
     }
 
@@ -34,11 +28,11 @@ impl Grade {
 impl Cost for Grade {
     ghost kind = { grade_kind };
 
-    ghost total = { first_of (Prim.search rules, Prim.grind (arith, Self.row.coded.inj)) };
+    ghost total = { Prim.search rules };
 
     ghost antisymmetric = { λ a b p q. same_grade a b (Prim.search rules) };
 
-    ghost transitive = { first_of (Prim.search rules, Prim.grind (arith, Self.row.coded.inj)) };
+    ghost transitive = { Prim.search rules };
 
     ghost associative = { λ a b c. same_grade _ _ (omega arith) };
 
@@ -46,21 +40,17 @@ impl Cost for Grade {
 
     ghost identity = { λ a. same_grade _ _ (omega arith) };
 
-    ghost monotone = { first_of (Prim.search rules, Prim.grind (arith, Self.row.coded.inj)) };
+    ghost monotone = { Prim.search rules };
 
     fn neutral() -> Grade {
         Grade::new(0)
     }
 
     fn join(self, other: Grade) -> Grade {
-        if self.value < other.value {
-            other
-        } else {
-            self
-        }
+        self.max(other)
     }
 
     fn at_most(self, other: Grade) -> bool {
-        self.value <= other.value
+        self <= other
     }
 }

@@ -7,11 +7,8 @@ ghost use Rattle.numbers.specs.Refusal.{number_told};
 ghost use Rattle.numbers.specs.Reader.{input_of};
 ghost use Rattle.numbers.specs.Spellings.{OneSpelling, SpellingsAreRead, OnlySpellingsAreRead, SpelledAt};
 
-use crate::groups::take_groups;
+use crate::groups::{MORE_BYTES, take_groups};
 use crate::{NumberRefusal, Reader};
-
-// Of the five bytes of the longest number all but one.
-const MORE_BYTES: u32 = 4;
 
 impl<'a> Reader<'a> {
     // A reader at the start of an input.
@@ -46,13 +43,9 @@ impl<'a> Reader<'a> {
         ensures spellings_read { SpellingsAreRead }
         ensures only_spellings_read { OnlySpellingsAreRead }
     {
-        match take_groups(self.rest, MORE_BYTES) {
-            Ok((n, rest)) => {
-                let place = self.place + (self.rest.len() - rest.len());
-                *self = Reader { rest, place };
-                Ok(n)
-            }
-            Err(fault) => Err(fault.at(self.place)),
-        }
+        let (n, rest) = take_groups(self.rest, MORE_BYTES).map_err(|fault| fault.at(self.place))?;
+        let place = self.place + (self.rest.len() - rest.len());
+        *self = Reader { rest, place };
+        Ok(n)
     }
 }

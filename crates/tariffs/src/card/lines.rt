@@ -4,9 +4,7 @@ ghost use Rattle.refusals.specs.Answer.{answer_of};
 ghost use Rattle.tariffs.specs.Card.{lines_of, add_answer, lines_after};
 ghost use Rattle.tariffs.specs.Refusal.{card_told};
 
-use crate::{CardRefusal, Line, RateCard};
-
-const MAX_LINES: usize = 32;
+use crate::{CardRefusal, Line, MAX_MACHINES, RateCard};
 
 impl RateCard {
     // A card without lines.
@@ -15,7 +13,7 @@ impl RateCard {
     {
         let unused = Line { speed: 1, rate: 0 };
         RateCard {
-            lines: [unused; 32],
+            lines: [unused; MAX_MACHINES],
             count: 0,
         }
     }
@@ -27,13 +25,10 @@ impl RateCard {
         ensures refused { is_ok result ≡ false → self.new ≡ self.old }
     {
         let machine = self.count;
-        if machine >= MAX_LINES {
+        if machine >= MAX_MACHINES {
             return Err(CardRefusal::Full);
         }
-        let Some(line) = Line::new(speed, rate) else {
-            return Err(CardRefusal::OutOfRange);
-        };
-        self.lines[machine] = line;
+        self.lines[machine] = Line::new(speed, rate).ok_or(CardRefusal::OutOfRange)?;
         self.count = machine + 1;
         Ok(machine)
     }

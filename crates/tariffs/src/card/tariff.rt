@@ -18,9 +18,9 @@ impl Tariff for RateCard {
     }
 
     fn quote(&self, machine: usize, work: u32) -> Option<Quote<Cents>> {
-        if machine >= self.count || !work_in_range(work) {
+        if !work_in_range(work) {
             return None;
         }
-        self.lines[machine].quote(work)
+        self.lines[..self.count].get(machine)?.quote(work)
     }
 }

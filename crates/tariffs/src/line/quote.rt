@@ -2,21 +2,19 @@
 ghost use Rattle.std.specs.Prelude.{◌≡◌};
 ghost use Rattle.tariffs.specs.Line.{line_in_range, line_answer, line_quote};
 
-use crate::{Line, Quote, charge_for};
+use crate::{Line, MAX_MINUTES, Quote, charge_for};
 use costs::Cents;
 
 const MAX_SPEED: u32 = 10_000;
 
 const MAX_RATE: u32 = 1_000_000;
 
-const MAX_MINUTES: u32 = 1_440;
-
 impl Line {
     // The line of this speed and rate, if both are in range.
     pub fn new(speed: u32, rate: u32) -> Option<Line>
         ensures { result ≡ line_answer speed rate }
     {
-        if speed < 1 || speed > MAX_SPEED || rate > MAX_RATE {
+        if !(1..=MAX_SPEED).contains(&speed) || rate > MAX_RATE {
             return None;
         }
         Some(Line { speed, rate })

@@ -5,26 +5,19 @@ ghost use Rattle.tariffs.specs.Refusal.{row_told};
 ghost use Rattle.tariffs.specs.Table.{FirstRowQuotes};
 ghost use Rattle.tariffs.specs.Rows.{bad_row, rows_answer, CheckTells};
 
-use crate::{QuoteTable, Row, RowRefusal};
+use crate::table::MAX_ROWS;
+use crate::{MAX_MACHINES, MAX_MINUTES, QuoteTable, Row, RowRefusal};
+use costs::Grade;
 use work::work_in_range;
-
-const MAX_ROWS: usize = 256;
-
-const MAX_MACHINE: u32 = 31;
-
-const MAX_MINUTES: u32 = 1_440;
-
-const MAX_GRADE: u32 = 15;
 
 // Whether a number of the row is out of range.
 fn is_bad(row: &Row) -> bool
     ensures { result ≡ bad_row row.now }
 {
-    row.machine > MAX_MACHINE
+    row.machine as usize >= MAX_MACHINES
         || !work_in_range(row.work)
-        || row.minutes < 1
-        || row.minutes > MAX_MINUTES
-        || row.grade > MAX_GRADE
+        || !(1..=MAX_MINUTES).contains(&row.minutes)
+        || row.grade > u32::from(Grade::GREATEST)
 }
 
 // Reports the first bad row; without one, too many rows.
@@ -32,15 +25,11 @@ pub fn check_rows(rows: &[Row]) -> Result<(), RowRefusal>
     ensures answer { answer_of row_told result ≡ rows_answer rows.now }
     ensures words { CheckTells rows.now result }
 {
-    for (place, row) in rows.iter().enumerate() {
-        if is_bad(row) {
-            return Err(RowRefusal::Bad(place));
-        }
+    match rows.iter().position(is_bad) {
+        Some(row) => Err(RowRefusal::Bad(row)),
+        None if rows.len() > MAX_ROWS => Err(RowRefusal::TooMany),
+        None => Ok(()),
     }
-    if rows.len() > MAX_ROWS {
-        return Err(RowRefusal::TooMany);
-    }
-    Ok(())
 }
 
 impl<'a> QuoteTable<'a> {

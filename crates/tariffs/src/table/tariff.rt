@@ -4,10 +4,8 @@ ghost use Rattle.tariffs.specs.Rows.{bears};
 ghost use Rattle.tariffs.specs.Table.{table_meaning};
 ghost use Rattle.tariffs.specs.Ranges.{table_ranged};
 
-use crate::{Quote, QuoteTable, Row, Tariff};
+use crate::{MAX_MACHINES, Quote, QuoteTable, Row, Tariff};
 use costs::Grade;
-
-const MACHINES: usize = 32;
 
 // Whether the row is for this machine and this work.
 fn bears(row: &Row, machine: usize, work: u32) -> bool
@@ -24,7 +22,7 @@ impl<'a> Tariff for QuoteTable<'a> {
     ghost ranged = { table_ranged };
 
     fn machines(&self) -> usize {
-        MACHINES
+        MAX_MACHINES
     }
 
     fn quote(&self, machine: usize, work: u32) -> Option<Quote<Grade>> {

@@ -1,11 +1,8 @@
-use Rattle.std.proofs.Common.{◌≡◌, ap, ◌∙◌, add-one, arith}
+use Rattle.std.proofs.Common.{◌≡◌, ap, ◌∙◌, arith}
 use Rattle.model.specs.Allowance.{cheapest, cheapest_below}
 use Rattle.cells.proofs.InWords.{cheapest_cases}
 use Rattle.cells.proofs.Laws.{laws_of}
 use Rattle.cells.proofs.choices.cheapest.Goals as goal
-
-pub loop-machine-preserved : goal.loop-machine-preserved
-loop-machine-preserved g c = rw add-one (cc)
 
 pub returns : goal.returns
 returns g c =

@@ -4,4 +4,4 @@ use Rattle.model.specs.Allowance.{greatest_time}
 use Rattle.cells.proofs.spans.greatest_time.Given as goal
 
 abbrev pub invariant-loop-task : goal.invariant-loop-task
-invariant-loop-task g l = l.greatest ≡ greatest_time (g.T.Tariff.meaning l.tariff) (stage_tasks (take l.task-index l.task-items) l.stage)
+invariant-loop-task g l = l.greatest ≡ greatest_time (g.T.Tariff.meaning l.priced.tariff.now) (stage_tasks (take l.task-index l.task-items) l.stage)

@@ -6,5 +6,5 @@ use Rattle.cells.proofs.stages.stage_cost.Given as goal
 abbrev pub invariant-loop-task : goal.invariant-loop-task
 invariant-loop-task g l =
     let K = g.T.Cost.Cost.kind in
-    let T = g.T.Tariff.meaning l.tariff in
+    let T = g.T.Tariff.meaning l.priced.tariff.now in
     joined K (Some l.sum) (cost_within K T (stage_tasks (drop l.task-index l.task-items) l.stage) l.allowance) ≡ cost_within K T (stage_tasks l.task-items l.stage) l.allowance

@@ -1,56 +1,44 @@
-use Rattle.std.proofs.Common.{Bool, false, ◌||◌, eqb, List, length, get_or, take, sym, refl, ap, ◌∙◌, arith}
+use Rattle.std.proofs.Common.{Bool, false, not, ◌&&◌, ◌||◌, eqb, List, length, get_or, take, replicate, sym, ap, ◌∙◌, rules, tests}
+use mathlib.Core.Bool.{or_assoc}
 use Rattle.std.specs.List.{range_with_len}
-use Rattle.std.proofs.lemmas.List.{take_all, length-replicate, get_or-replicate}
-use Rattle.sheets.specs.Tasks.{no_task}
+use Rattle.std.proofs.lemmas.List.{length-replicate, length-set}
+use Rattle.std.proofs.lemmas.Iterator.{YieldsList-from_slice}
+use Rattle.std.proofs.lemmas.Iterator.Search.{any_from_yields_List}
+use Rattle.sheets.specs.Tasks.{no_task, stands_in}
 use Rattle.sheets.specs.declared.task.Task.{Task}
 use Rattle.model.specs.Lists.{any, is_empty}
 use Rattle.model.specs.Assignment.{stage_tasks}
-use Rattle.model.specs.Allowance.{takes, is_time}
-use Rattle.cells.proofs.Marks.{quoted_at, quoted_more, set_mark, is_time_some, is_time_none, stage_tasks_past, not_empty_more}
+use Rattle.model.specs.Allowance.{takes}
+use Rattle.cells.proofs.Marks.{quoted_at, quoted_more, first_mark, none_stands, stage_tasks_past}
 use Rattle.cells.proofs.times.quoted_times.Goals as goal
 use Rattle.cells.proofs.times.quoted_times.Goals.{then-stands_in, else-stands_in}
 
 pub loop-task-init : goal.loop-task-init
-loop-task-init g c = (length-replicate 1441 false, refl, λ m l. get_or-replicate 1441 m false false l)
+loop-task-init g c =
+    let tasks = c.tasks-tasks.result.now in
+    let empty = ap not (any_from_yields_List (stands_in c.args.stage) c.any.new.self _ c.any.result c.any.ensures.ran (YieldsList-from_slice tasks c.iter.ensures.rest) (λ x b q k. search (rules, tests))) ∙ none_stands tasks c.args.stage in (
+      length-set (replicate 1441 false) 0 (not c.any.result) ∙ length-replicate 1441 false,
+      λ m l. first_mark (not c.any.result) 1441 m l ∙ ap (λ (b : Bool). (b && eqb m 0) || false) empty,
+    )
 
 pub loop-task-preserved : goal.loop-task-preserved
 loop-task-preserved g c =
-    let T = g.T.Tariff.meaning c.args.tariff.now in
-    let items = c.tasks-task-items.result.now in
+    let T = g.T.Tariff.meaning c.args.priced.now.tariff.now in
+    let tasks = c.tasks-tasks.result.now in
     let i = c.loop-task.task-index in
     elim c.if-stands_in.branch [
       | then-stands_in w ↦
           let stands = sym w.if-stands_in.ensures in (
             ap length w.times-is ∙ w.mark.array_long,
-            w.empty-is ∙ sym (not_empty_more items c.args.stage i no_task c.loop-task-test.true stands),
             λ m l. ap (λ (marks : List Bool). get_or marks m false) w.times-is
                 ∙ w.mark.ensures m l
-                ∙ ap (λ (b : Bool). b || any (takes T (get_or items i no_task) m) (range_with_len 0 T.count)) (c.loop-task.invariant.2 m l)
-                ∙ sym (quoted_more T items c.args.stage i no_task c.loop-task-test.true stands m),
+                ∙ ap (λ (b : Bool). b || any (takes T (get_or tasks i no_task) m) (range_with_len 0 T.count)) (c.loop-task.invariant.1 m l)
+                ∙ or_assoc (is_empty (stage_tasks tasks c.args.stage) && eqb m 0) (quoted_at T (stage_tasks (take i tasks) c.args.stage) m) (any (takes T (get_or tasks i no_task) m) (range_with_len 0 T.count))
+                ∙ ap (λ (b : Bool). (is_empty (stage_tasks tasks c.args.stage) && eqb m 0) || b) (sym (quoted_more T tasks c.args.stage i no_task c.loop-task-test.true stands m)),
           )
       | else-stands_in w ↦
-          let past = stage_tasks_past items c.args.stage i no_task c.loop-task-test.true (sym w.if-stands_in.ensures) in (
+          let past = stage_tasks_past tasks c.args.stage i no_task c.loop-task-test.true (sym w.if-stands_in.ensures) in (
             ap length w.times-is ∙ c.loop-task.invariant.0,
-            w.empty-is ∙ c.loop-task.invariant.1 ∙ ap (λ (tasks : List Task). is_empty tasks) (sym past),
-            λ m l. ap (λ (marks : List Bool). get_or marks m false) w.times-is ∙ c.loop-task.invariant.2 m l ∙ ap (λ (tasks : List Task). quoted_at T tasks m) (sym past),
+            λ m l. ap (λ (marks : List Bool). get_or marks m false) w.times-is ∙ c.loop-task.invariant.1 m l ∙ ap (λ (some : List Task). (is_empty (stage_tasks tasks c.args.stage) && eqb m 0) || quoted_at T some m) (sym past),
           )
     ]
-
-pub returns-then-empty : goal.returns-then-empty
-returns-then-empty g c m l =
-    let T = g.T.Tariff.meaning c.args.tariff.now in
-    let all = take_all c.loop-task.task-index c.tasks-task-items.result.now c.loop-task-test.false ∙ c.tasks-task-items.ensures.value in
-    let tasks = stage_tasks (take c.loop-task.task-index c.tasks-task-items.result.now) c.args.stage in
-    set_mark c.loop-task.times 0 m (omega (arith, c.loop-task.invariant.0))
-    ∙ ap (λ (b : Bool). b || eqb 0 m) (c.loop-task.invariant.2 m l)
-    ∙ is_time_none T tasks m (sym c.loop-task.invariant.1 ∙ c.if-empty.true)
-    ∙ ap (λ (ts : List Task). is_time T (stage_tasks ts c.args.stage) m) all
-
-pub returns-else-empty : goal.returns-else-empty
-returns-else-empty g c m l =
-    let T = g.T.Tariff.meaning c.args.tariff.now in
-    let all = take_all c.loop-task.task-index c.tasks-task-items.result.now c.loop-task-test.false ∙ c.tasks-task-items.ensures.value in
-    let tasks = stage_tasks (take c.loop-task.task-index c.tasks-task-items.result.now) c.args.stage in
-    c.loop-task.invariant.2 m l
-    ∙ is_time_some T tasks m (sym c.loop-task.invariant.1 ∙ c.if-empty.false)
-    ∙ ap (λ (ts : List Task). is_time T (stage_tasks ts c.args.stage) m) all

@@ -10,9 +10,9 @@ use Rattle.keyinput.proofs.input.read_input.Goals as goal
 
 pub returns : goal.returns
 returns c =
-    let key : KeyInput = record { card = c.in_ok-card.card; sheet = c.read_sheet_from.new.sheet; question = c.in_ok-question.question } in
+    let key : KeyInput = record { batch = c.in_ok-batch.batch; question = c.in_ok-question.question } in
     let answered : ◌≡◌ {A = Answer Asked} (Ok (asked_by key)) (value_of (key_in c.args.bytes.now)) = search rules in
     let spelt = accepted_is_spelled c.args.bytes.now (asked_by key) (byte_string c.args.bytes.now (λ i. (c.type_inv.bytes i).fits)) answered in
     let long = ap length spelt in
     let most = input_bytes key in
-    record { answer = answered; spelt = spelt; short = omega arith; known = c.in_ok-read_sheet_from.ensures.known }
+    record { answer = answered; spelt = spelt; short = omega arith; known = c.in_ok-batch.ensures.known }

@@ -1,44 +1,46 @@
-use Rattle.std.proofs.Common.{◌+◌, ◌<◌, ◌++◌, length, get_or, take, sym, ap, ◌∙◌, arith, length-set}
-use Rattle.std.proofs.lemmas.List.{append-nil}
-use Rattle.keylines.specs.Machine.{assigned}
-use Rattle.keylines.proofs.Machines.{machines_left, machines_struck, machines_standing, machines_all, list_more}
+use Rattle.std.proofs.Common.{◌<◌, ◌++◌, length, take, sym, ap, ◌∙◌, arith, rules}
+use Rattle.std.proofs.lemmas.Iterator.{YieldsList-from_slice, YieldsList-from_zip}
+use Rattle.std.proofs.lemmas.Iterator.Consumers.{YieldsList-from_enumerate, YieldsList-turn, YieldsList-end}
+use Rattle.std.proofs.lemmas.List.{at_drop_all, append-nil, length-take, length_push}
+use Rattle.keylines.proofs.Machines.{numbered, machines_in, machines_numbered, numbered_few, list_kept, list_more}
 use Rattle.keylines.proofs.plan.list_machines.Goals as goal
-use Rattle.keylines.proofs.plan.list_machines.Goals.{then-not-tasks-task, else-not-tasks-task}
 
-pub loop-task-preserved : goal.loop-task-preserved
-loop-task-preserved c =
-    let tasks = c.args.tasks.now in
-    let plan = c.args.plan.now in
-    let i = c.loop-task.task in
-    let h : i < length tasks = omega (arith, c.min-task-end.ensures) in
-    let k : i < length plan = omega (arith, c.min-task-end.ensures) in
-    elim c.if-not-tasks-task.branch [
-      | then-not-tasks-task w ↦
-          let room : c.loop-task.count < length c.loop-task.list = omega (arith, c.loop-task.invariant.1, c.loop-task.invariant.2) in
-          let grown = list_more c.loop-task.list c.loop-task.count (assigned i (get_or plan i 0)) (machines_left tasks plan i (i + 1)) room in
-          let standing = machines_standing tasks plan i h k w.if-not-tasks-task.true in
-          rw (w.count-is, w.list-is) (
-            grown ∙ ap (λ l. take c.loop-task.count c.loop-task.list ++ l) (sym standing) ∙ c.loop-task.invariant.0,
-            omega (arith, c.loop-task.invariant.1),
-            simp length-set c.loop-task.invariant.2,
-          )
-      | else-not-tasks-task w ↦
-          let struck = machines_struck tasks plan i h k w.if-not-tasks-task.false in
-          rw (w.count-is, w.list-is) (
-            ap (λ l. take c.loop-task.count c.loop-task.list ++ l) (sym struck) ∙ c.loop-task.invariant.0,
-            omega (arith, c.loop-task.invariant.1),
-            c.loop-task.invariant.2,
-          )
-    ]
+pub loop-number-init : goal.loop-number-init
+loop-number-init c = (search rules, search rules, machines_numbered 0 c.args.tasks.now c.args.plan.now, omega arith)
+
+pub loop-number-preserved-then-not-task : goal.loop-number-preserved-then-not-task
+loop-number-preserved-then-not-task c =
+    let all = numbered c.args.tasks.now c.args.plan.now in
+    let road = YieldsList-from_enumerate {s = c.into_iter-number-iterator.result} (YieldsList-from_zip (YieldsList-from_slice c.args.tasks.now cc) (YieldsList-from_slice c.args.plan.now cc)) cc in
+    let turn = YieldsList-turn road c.loop-number.yielded c.loop-number.number-iterator c.loop-number.yielded_by c.next.result c.next.new.self (c.in-Some.number, (c.in-Some.task, c.in-Some.machine)) c.in-Some.is c.next.ensures.steps in
+    let few = numbered_few 0 c.args.tasks.now c.args.plan.now in
+    let long = length_push c.loop-number.yielded (c.in-Some.number, (c.in-Some.task, c.in-Some.machine)) in
+    let room : c.loop-number.count < length c.loop-number.list = omega (arith, turn.0) in
+    let more = list_more all (length c.loop-number.yielded) _ turn.0 turn.1 c.loop-number.list c.loop-number.count c.if-not-task.true room in
+    (search rules, search rules, rw long (more ∙ c.loop-number.invariant.2), omega arith)
+
+pub loop-number-preserved : goal.loop-number-preserved
+loop-number-preserved c =
+    let all = numbered c.args.tasks.now c.args.plan.now in
+    let road = YieldsList-from_enumerate {s = c.into_iter-number-iterator.result} (YieldsList-from_zip (YieldsList-from_slice c.args.tasks.now cc) (YieldsList-from_slice c.args.plan.now cc)) cc in
+    let turn = YieldsList-turn road c.loop-number.yielded c.loop-number.number-iterator c.loop-number.yielded_by c.next.result c.next.new.self (c.in-Some.number, (c.in-Some.task, c.in-Some.machine)) c.in-Some.is c.next.ensures.steps in
+    let long = length_push c.loop-number.yielded (c.in-Some.number, (c.in-Some.task, c.in-Some.machine)) in
+    let kept = list_kept all (length c.loop-number.yielded) _ turn.0 turn.1 c.loop-number.list c.loop-number.count c.if-not-task.false in
+    (search rules, search rules, rw long (kept ∙ c.loop-number.invariant.2), omega arith)
+
+pub slice_bounds-result-end : goal.slice_bounds-result-end
+slice_bounds-result-end c =
+    let road = YieldsList-from_enumerate {s = c.into_iter-number-iterator.result} (YieldsList-from_zip (YieldsList-from_slice c.args.tasks.now cc) (YieldsList-from_slice c.args.plan.now cc)) cc in
+    let end = YieldsList-end road c.loop-number.yielded c.loop-number.number-iterator c.loop-number.yielded_by c.next.result c.next.new.self c.in-None.is c.next.ensures.steps in
+    let few = numbered_few 0 c.args.tasks.now c.args.plan.now in
+    simp length-take (omega (arith, end.1))
 
 pub returns : goal.returns
 returns c =
-    let tasks = c.args.tasks.now in
-    let plan = c.args.plan.now in
-    let all = machines_all tasks plan c.loop-task.task (omega (arith, c.min-task-end.ensures)) in
-    record {
-      value = sym (append-nil (take c.loop-task.count c.loop-task.list))
-          ∙ ap (λ l. take c.loop-task.count c.loop-task.list ++ l) (sym all)
-          ∙ c.loop-task.invariant.0;
-      few = omega (arith, c.loop-task.invariant.1, c.min-task-end.ensures, c.loop-task.auto.task-end);
-    }
+    let all = numbered c.args.tasks.now c.args.plan.now in
+    let road = YieldsList-from_enumerate {s = c.into_iter-number-iterator.result} (YieldsList-from_zip (YieldsList-from_slice c.args.tasks.now cc) (YieldsList-from_slice c.args.plan.now cc)) cc in
+    let end = YieldsList-end road c.loop-number.yielded c.loop-number.number-iterator c.loop-number.yielded_by c.next.result c.next.new.self c.in-None.is c.next.ensures.steps in
+    let none = at_drop_all machines_in all (length c.loop-number.yielded) (omega (arith, end.1)) in
+    sym (append-nil (take c.loop-number.count c.loop-number.list))
+    ∙ ap (λ l. take c.loop-number.count c.loop-number.list ++ l) (sym none)
+    ∙ c.loop-number.invariant.2

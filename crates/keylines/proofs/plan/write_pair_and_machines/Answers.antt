@@ -1,36 +1,21 @@
-use Rattle.std.proofs.Common.{length, is_some, sym, ap, ◌∙◌}
+use Rattle.std.proofs.Common.{◌≡◌, ◌++◌, Ok, Some, true, is_some, length, rules, ap, ◌∙◌}
 use Rattle.std.specs.List.{flat_map}
-use Rattle.texts.proofs.Pieces.{puts_written, puts_then}
-use Rattle.texts.proofs.Puts.{short_answer, short_after}
-use Rattle.texts.proofs.Rooms.{room_enough, room_lacking, room_then, room_first_short}
+use Rattle.texts.specs.Room.{room_behind}
+use Rattle.texts.proofs.Pieces.{puts_then, puts_written, written_puts}
+use Rattle.texts.proofs.Rooms.{room_enough, room_then}
 use Rattle.keylines.specs.Machine.{machine_line}
-use Rattle.keylines.specs.Plan.{result_text}
 use Rattle.keylines.specs.Point.{point_line}
 use Rattle.keylines.proofs.plan.write_pair_and_machines.Goals as goal
 
-pub returns-in_default : goal.returns-in_default
-returns-in_default g c =
-    let line = point_line g.C.WrittenCost.text c.args.point.now in
-    let lines = flat_map machine_line c.args.machines.now in
-    let both = room_first_short line lines (length c.args.memory.now) (sym c.in_default.ensures) in
-    let short = room_lacking (result_text g.C.WrittenCost.text c.args.point.now c.args.machines.now) (length c.args.memory.now) (ap is_some both) in
-    record { answer = short_answer _ _ short; after = short_after _ _ short }
-
-pub returns-then-is_none : goal.returns-then-is_none
-returns-then-is_none g c =
-    let line = point_line g.C.WrittenCost.text c.args.point.now in
-    let lines = flat_map machine_line c.args.machines.now in
-    let both = room_then line lines (length c.args.memory.now) _ (sym c.in-Some.ensures) in
-    let short = room_lacking (result_text g.C.WrittenCost.text c.args.point.now c.args.machines.now) (length c.args.memory.now) (ap is_some both ∙ sym (ap is_some c.lines_room.ensures) ∙ c.if-is_none.ensures) in
-    record { answer = short_answer _ _ short; after = short_after _ _ short }
-
 pub returns : goal.returns
 returns g c =
+    let was = c.args.memory.now in
     let line = point_line g.C.WrittenCost.text c.args.point.now in
     let lines = flat_map machine_line c.args.machines.now in
-    let text = result_text g.C.WrittenCost.text c.args.point.now c.args.machines.now in
-    let both = room_then line lines (length c.args.memory.now) _ (sym c.in-Some.ensures) in
-    let fits = room_enough text (length c.args.memory.now) (ap is_some both ∙ sym (ap is_some c.lines_room.ensures) ∙ c.if-is_none.ensures) in
-    let put = puts_then _ _ _ line lines 0 _ c.put_lines.result c.in_ok-end.ensures c.put_lines.ensures in
-    let written = puts_written text c.args.memory.now _ c.put_lines.result fits put in
+    let left : room_behind line (length was) ≡ Some c.in_ok-left.left = search rules in
+    let enough : is_some (room_behind lines c.in_ok-left.left) ≡ true = search rules in
+    let fits = room_enough (line ++ lines) (length was) (ap is_some (room_then line lines (length was) c.in_ok-left.left left) ∙ enough) in
+    let first = written_puts line was c.write.new.memory (Ok c.in_ok-end.end) c.in_ok-end.ensures.answer c.in_ok-end.ensures.after in
+    let put = puts_then _ _ _ line lines 0 _ c.put_lines.result first c.put_lines.ensures in
+    let written = puts_written (line ++ lines) was _ c.put_lines.result fits put in
     record { answer = written.0; after = written.1 }

@@ -7,10 +7,10 @@ use Rattle.planner.proofs.bargains.same_bargains.Goals as goal
 
 pub returns : goal.returns
 returns g c =
-    let T = g.T.Tariff.meaning c.args.first_tariff.now in
-    let U = g.U.Tariff.meaning c.args.second_tariff.now in
-    let F = g.T.Tariff.ranged c.args.first_tariff.now in
-    let G = g.U.Tariff.ranged c.args.second_tariff.now in
+    let T = g.T.Tariff.meaning c.args.first.now.tariff.now in
+    let U = g.U.Tariff.meaning c.args.second.now.tariff.now in
+    let F = g.T.Tariff.ranged c.args.first.now.tariff.now in
+    let G = g.U.Tariff.ranged c.args.second.now.tariff.now in
     let laws = laws_of g.met.T.Cost.Cost in
     record {
       answer = c.compare.ensures.answer;
@@ -18,6 +18,6 @@ returns g c =
       mine = c.compare.ensures.mine;
       yours = c.compare.ensures.yours;
       bargains = bargains_agree laws T U F G;
-      verdict = verdict_holds laws T U F G c.args.first.now c.args.second.now c.args.cells.now c.args.first_points.now c.args.second_points.now c.compare.result c.compare.ensures.answer;
+      verdict = verdict_holds laws T U F G c.args.first.now.sheet.now c.args.second.now.sheet.now c.args.cells.now c.args.first_points.now c.args.second_points.now c.compare.result c.compare.ensures.answer;
       known = (known_further _ Front _ refl, known_further _ Front _ refl);
     }

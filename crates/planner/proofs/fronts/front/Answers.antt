@@ -7,38 +7,26 @@ use Rattle.cells.specs.Layout.{layout_of}
 use Rattle.model.specs.Front.{front}
 use Rattle.model.specs.Question.{few_cells}
 use Rattle.cells.proofs.Laws.{laws_of}
-use Rattle.planner.proofs.FirstRow.{few_from_refused, enough_from_filled, row_is_front, front_refused_7, points_kept_7, front_refused_8, points_kept_8, front_answered, points_written}
+use Rattle.planner.proofs.FirstRow.{enough_from_filled, row_is_front, front_refused_8, points_kept_8, front_answered, points_written}
 use Rattle.planner.proofs.fronts.front.Goals as goal
 
-pub returns-in-Err : goal.returns-in-Err
-returns-in-Err g c =
-    let K = g.T.Cost.Cost.kind in
-    let T = g.T.Tariff.meaning c.args.tariff.now in
-    let b = book c.args.sheet.now in
-    let cells = c.args.cells.now in
-    let points = c.args.points.now in
-    let few = few_from_refused (few_cells T b cells) (layout_of T b) _ c.in-Err.ensures.answer in
-    record {
-      answer = sym (front_refused_7 K T b cells points few);
-      cells = c.in-Err.ensures.after;
-      points = sym (points_kept_7 K T b cells points few);
-      known = known_further _ Front _ refl;
-    }
+pub returns-in_err-layout-clause-known : goal.returns-in_err-layout-clause-known
+returns-in_err-layout-clause-known g c = known_further _ Front _ refl
 
 pub returns-then-points-count : goal.returns-then-points-count
 returns-then-points-count g c =
     let K = g.T.Cost.Cost.kind in
-    let T = g.T.Tariff.meaning c.args.tariff.now in
-    let b = book c.args.sheet.now in
+    let T = g.T.Tariff.meaning c.args.priced.now.tariff.now in
+    let b = book c.args.priced.now.sheet.now in
     let cells = c.args.cells.now in
     let points = c.args.points.now in
-    let done = enough_from_filled (few_cells T b cells) (layout_of T b) c.in-Ok.layout c.in-Ok.ensures.answer in
-    let read = row_is_front (laws_of g.met.T.Cost.Cost) T (g.T.Tariff.ranged c.args.tariff.now) b cells c.fill.new.cells c.in-Ok.layout done.0 c.in-Ok.ensures.after done.1 in
+    let done = enough_from_filled (few_cells T b cells) (layout_of T b) c.in_ok-layout.layout c.in_ok-layout.ensures.answer in
+    let read = row_is_front (laws_of g.met.T.Cost.Cost) T (g.T.Tariff.ranged c.args.priced.now.tariff.now) b cells c.fill.new.cells c.in_ok-layout.layout done.0 c.in_ok-layout.ensures.after done.1 in
     let counted : c.count_points-count.result ≡ length (front K T b) = c.count_points-count.ensures ∙ ap length read in
     let short : length points < length (front K T b) = omega (arith, counted, c.if-points-count.true) in
     record {
       answer = sym (front_refused_8 K T b cells points done.0 short);
-      cells = c.in-Ok.ensures.after;
+      cells = c.in_ok-layout.ensures.after;
       points = sym (points_kept_8 K T b cells points done.0 short);
       known = known_further _ Front _ refl;
     }
@@ -46,17 +34,17 @@ returns-then-points-count g c =
 pub returns : goal.returns
 returns g c =
     let K = g.T.Cost.Cost.kind in
-    let T = g.T.Tariff.meaning c.args.tariff.now in
-    let b = book c.args.sheet.now in
+    let T = g.T.Tariff.meaning c.args.priced.now.tariff.now in
+    let b = book c.args.priced.now.sheet.now in
     let cells = c.args.cells.now in
     let points = c.args.points.now in
-    let done = enough_from_filled (few_cells T b cells) (layout_of T b) c.in-Ok.layout c.in-Ok.ensures.answer in
-    let read = row_is_front (laws_of g.met.T.Cost.Cost) T (g.T.Tariff.ranged c.args.tariff.now) b cells c.fill.new.cells c.in-Ok.layout done.0 c.in-Ok.ensures.after done.1 in
+    let done = enough_from_filled (few_cells T b cells) (layout_of T b) c.in_ok-layout.layout c.in_ok-layout.ensures.answer in
+    let read = row_is_front (laws_of g.met.T.Cost.Cost) T (g.T.Tariff.ranged c.args.priced.now.tariff.now) b cells c.fill.new.cells c.in_ok-layout.layout done.0 c.in_ok-layout.ensures.after done.1 in
     let counted : c.count_points-count.result ≡ length (front K T b) = c.count_points-count.ensures ∙ ap length read in
     let fits : length (front K T b) ≤ length points = omega (arith, counted, c.if-points-count.false) in
     record {
       answer = ap Ok counted ∙ sym (front_answered K T b cells points done.0 fits);
-      cells = c.in-Ok.ensures.after;
+      cells = c.in_ok-layout.ensures.after;
       points = c.write_points.ensures ∙ ap (λ (ps : List (Point g.row.T-Cost.Denot)). ps ++ drop (length ps) points) read ∙ sym (points_written K T b cells points done.0 fits);
       known = known_further _ Front _ refl;
     }

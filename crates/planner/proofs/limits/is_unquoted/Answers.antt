@@ -1,13 +1,11 @@
-use Rattle.std.proofs.Common.{Bool, not, ◌&&◌, sym, ap₂}
-use Rattle.planner.proofs.Quoting.{none_quoting, some_quoting}
+use Rattle.std.proofs.Common.{Bool, not, ◌&&◌, sym, ap, ◌∙◌}
+use Rattle.model.specs.Lists.{is_empty}
+use Rattle.model.specs.Assignment.{quoting}
+use Rattle.planner.proofs.Quoting.{quoting_empty}
 use Rattle.planner.proofs.limits.is_unquoted.Goals as goal
 
-pub returns-in-Some : goal.returns-in-Some
-returns-in-Some g c =
-    sym (ap₂ (λ (struck none : Bool). not struck && none) c.if-task.false
-    (some_quoting (g.T.Tariff.meaning c.args.tariff.now) (g.T.Tariff.ranged c.args.tariff.now) c.args.task.now g.T.Cost.Cost.kind 1440 c.in-Some.field-0 c.in-Some.ensures.chosen))
-
-pub returns-in-None : goal.returns-in-None
-returns-in-None g c =
-    sym (ap₂ (λ (struck none : Bool). not struck && none) c.if-task.false
-    (none_quoting (g.T.Tariff.meaning c.args.tariff.now) (g.T.Tariff.ranged c.args.tariff.now) c.args.task.now c.in-None.ensures.chosen))
+pub returns-then-not-task : goal.returns-then-not-task
+returns-then-not-task g c =
+    let T = g.T.Tariff.meaning c.args.tariff.now in
+    quoting_empty T (g.T.Tariff.ranged c.args.tariff.now) c.args.task.now g.T.Cost.Cost.kind c.cheapest.result c.cheapest.ensures.chosen c.is_none.result c.is_none.ensures
+    ∙ sym (ap (λ (struck : Bool). not struck && is_empty (quoting T c.args.task.now)) c.if-not-task.true)

@@ -1,23 +1,14 @@
-use Rattle.std.proofs.Common.{sym, ap, ◌∙◌}
-use Rattle.sheets.specs.Tasks.{no_task}
-use Rattle.model.specs.Limit.{unquoted}
+use Rattle.std.proofs.Common.{◌≡◌, sym, ap, ◌∙◌, rules, tests}
+use Rattle.std.proofs.lemmas.Iterator.{YieldsList-from_slice}
+use Rattle.std.proofs.lemmas.Iterator.Search.{position_from_yields_List}
 use Rattle.tariffs.specs.First.{position}
-use Rattle.tariffs.proofs.Firsts.{sought_none, sought_more, sought_here, sought_all}
+use Rattle.tariffs.proofs.Firsts.{position_counted}
+use Rattle.model.specs.Limit.{unquoted}
 use Rattle.planner.proofs.limits.lowest_unquoted.Goals as goal
-
-pub loop-number-init : goal.loop-number-init
-loop-number-init g c = sought_none (unquoted (g.T.Tariff.meaning c.args.tariff.now)) c.tasks-task-items.result.now
-
-pub returns-then-is_unquoted : goal.returns-then-is_unquoted
-returns-then-is_unquoted g c =
-    let test = unquoted (g.T.Tariff.meaning c.args.tariff.now) in
-    sym (ap (position test) (sym c.tasks-task-items.ensures.value) ∙ sought_here test c.tasks-task-items.result.now c.loop-number.number no_task c.loop-number-test.true (sym c.if-is_unquoted.ensures) c.loop-number.invariant)
-
-pub loop-number-preserved : goal.loop-number-preserved
-loop-number-preserved g c =
-    sought_more (unquoted (g.T.Tariff.meaning c.args.tariff.now)) c.tasks-task-items.result.now c.loop-number.number no_task c.loop-number-test.true (sym c.if-is_unquoted.ensures) c.loop-number.invariant
 
 pub returns : goal.returns
 returns g c =
-    let test = unquoted (g.T.Tariff.meaning c.args.tariff.now) in
-    sym (ap (position test) (sym c.tasks-task-items.ensures.value) ∙ sought_all test c.tasks-task-items.result.now c.loop-number.number c.loop-number-test.false c.loop-number.invariant)
+    let tasks = c.tasks.result.now in
+    let test = unquoted (g.T.Tariff.meaning c.args.priced.now.tariff.now) in
+    let sought : c.position.result ≡ position test tasks = position_from_yields_List test _ _ c.position.result c.position.ensures.ran (YieldsList-from_slice tasks c.iter.ensures.rest) (λ x b q k. search (rules, tests)) ∙ sym (position_counted test tasks) in
+    sought ∙ ap (position test) c.tasks.ensures.value

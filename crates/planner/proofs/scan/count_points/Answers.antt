@@ -1,14 +1,15 @@
-use Rattle.std.proofs.Common.{sym, ◌∙◌, arith}
-use Rattle.cells.specs.Memory.{row_costs}
-use Rattle.planner.proofs.Points.{drops_counted, drops_uncounted}
+use Rattle.std.proofs.Common.{ap, ◌∙◌, length, arith, rules}
+use Rattle.std.proofs.lemmas.Iterator.{YieldsList-from_range}
+use Rattle.std.proofs.lemmas.Iterator.Consumers.{YieldsList-from_filter_map, count_from_yields_List}
+use Rattle.planner.specs.Row.{first_row}
+use Rattle.planner.proofs.Points.{dropped, dropped_told, drops_told}
 use Rattle.planner.proofs.scan.count_points.Goals as goal
-use Rattle.planner.proofs.scan.count_points.Goals.{then-is_some, else-is_some}
 
-pub loop-minute-preserved : goal.loop-minute-preserved
-loop-minute-preserved g c =
+pub returns : goal.returns
+returns g c =
     let K = g.C.Cost.kind in
-    let costs = row_costs K c.args.layout c.args.cells.now 0 in
-    elim c.if-is_some.branch [
-      | then-is_some w ↦ (let more = drops_counted K costs c.loop-minute.minute c.point_at.result (sym c.is_some.ensures ∙ w.if-is_some.true) c.point_at.ensures in omega (arith, c.loop-minute.invariant.0, w.count-is), omega (arith, c.loop-minute.invariant.1, w.count-is))
-      | else-is_some w ↦ (let same = drops_uncounted K costs c.loop-minute.minute c.point_at.result (sym c.is_some.ensures ∙ w.if-is_some.false) c.point_at.ensures in omega (arith, c.loop-minute.invariant.0, w.count-is), omega (arith, c.loop-minute.invariant.1, w.count-is))
-    ]
+    let costs = first_row K c.args.rows.now in
+    let width = c.args.rows.now.layout.width in
+    count_from_yields_List c.filter_map.result c.count.result c.count.ensures.ran
+    (YieldsList-from_filter_map _ (dropped K costs) (YieldsList-from_range 0 width width c.filter_map.ensures.source (omega arith)) c.filter_map.ensures.closure (λ x r q k. (search rules, dropped_told K costs x r (search rules))))
+    ∙ ap length (drops_told K costs width)

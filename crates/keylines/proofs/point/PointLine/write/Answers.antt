@@ -1,19 +1,22 @@
-use Rattle.std.proofs.Common.{length, is_some, sym, ap, ◌∙◌}
-use Rattle.texts.proofs.Pieces.{puts_written}
-use Rattle.texts.proofs.Puts.{short_answer, short_after}
-use Rattle.texts.proofs.Rooms.{room_enough, room_lacking}
+use Rattle.std.proofs.Common.{◌+◌, ◌≤◌, [], ◌∷◌, ◌++◌, Ok, length, decimal, set, rules, arith}
+use Rattle.texts.specs.Put.{Put}
+use Rattle.texts.proofs.Puts.{put_one, part_put, put_then, put_answer, put_after}
+use Rattle.texts.proofs.Pieces.{written_puts}
 use Rattle.keylines.specs.Point.{point_line}
+use Rattle.keylines.proofs.Pairs.{length_point_line}
 use Rattle.keylines.proofs.point.PointLine.write.Goals as goal
 
 pub returns : goal.returns
 returns g c =
-    let text = point_line g.C.WrittenCost.text c.args.self.now in
-    let fits = room_enough text (length c.args.memory.now) (sym (ap is_some c.room_behind.ensures) ∙ c.if-is_none.ensures) in
-    let written = puts_written text c.args.memory.now _ c.put_pair.result fits c.put_pair.ensures in
-    record { answer = written.0; after = written.1 }
-
-pub returns-then-is_none : goal.returns-then-is_none
-returns-then-is_none g c =
-    let text = point_line g.C.WrittenCost.text c.args.self.now in
-    let short = room_lacking text (length c.args.memory.now) (sym (ap is_some c.room_behind.ensures) ∙ c.if-is_none.ensures) in
-    record { answer = short_answer _ _ short; after = short_after _ _ short }
+    let was = c.args.memory.now in
+    let minutes = decimal c.args.self.now.length in
+    let text = g.C.WrittenCost.text c.args.self.now.cost in
+    let fits : length (point_line g.C.WrittenCost.text c.args.self.now) ≤ length was = search rules in
+    let long = length_point_line g.C.WrittenCost.text c.args.self.now in
+    let end = c.in_ok-length_end.length_end in
+    let first : Put was 0 minutes c.write_number.new.memory end = written_puts minutes was _ (Ok end) c.in_ok-length_end.ensures.answer c.in_ok-length_end.ensures.after in
+    let space = put_one c.write_number.new.memory end 32 (omega (arith, first.ends, first.long)) in
+    let cost = part_put (set c.write_number.new.memory end 32) text c.write.new.memory (end + 1) c.in_ok-cost_end.field-0 (omega (arith, first.ends, first.long, space.long)) (written_puts text _ c.write.new.memory (Ok c.in_ok-cost_end.field-0) c.in_ok-cost_end.ensures.answer c.in_ok-cost_end.ensures.after) in
+    let last = put_one _ (end + 1 + c.in_ok-cost_end.field-0) 10 (omega (arith, first.ends, first.long, space.long, cost.ends, cost.long)) in
+    let put = put_then _ _ _ minutes (32 ∷ (text ++ (10 ∷ []))) _ _ _ first (put_then _ _ _ (32 ∷ []) (text ++ (10 ∷ [])) _ _ _ space (put_then _ _ _ text (10 ∷ []) _ _ _ cost last)) in
+    record { answer = put_answer _ _ _ _ fits put; after = put_after _ _ _ _ fits put }

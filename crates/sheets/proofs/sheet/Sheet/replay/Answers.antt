@@ -1,15 +1,9 @@
-use Rattle.std.proofs.Common.{take, sym, ap, ◌∙◌, arith}
-use Rattle.std.proofs.lemmas.List.{take_all, take_more}
-use Rattle.sheets.specs.declared.call.Call.TheVariants.{Stage}
+use Rattle.std.proofs.Common.{ap, ◌∙◌, arith}
+use Rattle.std.proofs.lemmas.List.{take_all}
 use Rattle.sheets.specs.History.{book_after}
 use Rattle.sheets.proofs.Histories.{book_sound, task_numbers_are_never_reused, tasks_keep_their_stages, struck_tasks_stay_as_they_are, refused_calls_can_be_left_out}
 use Rattle.sheets.proofs.Applies.{the_smallest_refusal_is_told}
 use Rattle.sheets.proofs.sheet.Sheet.replay.Goals as goal
-
-pub loop-call-preserved : goal.loop-call-preserved
-loop-call-preserved c =
-    let known = c.perform.ensures.known (take c.loop-call.call-index c.args.calls.now) c.loop-call.invariant in
-    known ∙ ap book_after (sym (take_more c.args.calls.now c.loop-call.call-index Stage (omega arith)))
 
 pub returns : goal.returns
 returns c = record {

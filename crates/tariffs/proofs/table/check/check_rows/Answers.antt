@@ -1,40 +1,28 @@
-use Rattle.std.proofs.Common.{length, sym, ap, ◌∙◌, arith, below_none, below_more}
-use Rattle.std.proofs.lemmas.Bool.{cond-true, cond-false, lt-ltb, le-ltb}
-use Rattle.tariffs.specs.Rows.{bad_row, rows_verdict, no_row}
-use Rattle.tariffs.proofs.Firsts.{sought_none, sought_more, sought_here, sought_all}
+use Rattle.std.proofs.Common.{◌≡◌, length, None, Ok, Err, sym, ap, ◌∙◌, rules, tests}
+use Rattle.std.proofs.lemmas.Iterator.{YieldsList-from_slice}
+use Rattle.std.proofs.lemmas.Iterator.Search.{position_from_yields_List}
+use Rattle.refusals.specs.Answer.{carrying}
+use Rattle.tariffs.specs.First.{position}
+use Rattle.tariffs.specs.Rows.{bad_row, rows_verdict}
+use Rattle.tariffs.proofs.Firsts.{position_counted}
 use Rattle.tariffs.proofs.table.check.check_rows.Goals as goal
 
-pub loop-place-init : goal.loop-place-init
-loop-place-init c = (sought_none bad_row c.args.rows.now, below_none _)
-
-pub returns-then-is_bad : goal.returns-then-is_bad
-returns-then-is_bad c =
+pub returns-in-Some-clause-answer : goal.returns-in-Some-clause-answer
+returns-in-Some-clause-answer c =
     let rows = c.args.rows.now in
-    let bad = sym c.if-is_bad.ensures in
-    record {
-      answer = sym (ap (rows_verdict (length rows)) (sought_here bad_row rows _ no_row c.loop-place-test.true bad c.loop-place.invariant.0));
-      words = (c.loop-place-test.true, bad, c.loop-place.invariant.1);
-    }
+    let sought : c.position.result ≡ position bad_row rows = position_from_yields_List bad_row _ _ c.position.result c.position.ensures.ran (YieldsList-from_slice rows c.iter.ensures.rest) (λ x b q k. search (rules, tests)) ∙ sym (position_counted bad_row rows) in
+    ap (rows_verdict (length rows)) (sym c.in-Some.is ∙ sought)
 
-pub loop-place-preserved : goal.loop-place-preserved
-loop-place-preserved c =
-    let good = sym c.if-is_bad.ensures in
-    (sought_more bad_row c.args.rows.now _ no_row c.loop-place-test.true good c.loop-place.invariant.0, below_more _ _ c.loop-place.invariant.1 good)
-
-pub returns-then-rows-gt-MAX_ROWS : goal.returns-then-rows-gt-MAX_ROWS
-returns-then-rows-gt-MAX_ROWS c =
+pub returns-in-None-clause-answer : goal.returns-in-None-clause-answer
+returns-in-None-clause-answer c =
     let rows = c.args.rows.now in
-    let many = c.if-rows-gt-MAX_ROWS.true in
-    record {
-      answer = sym (ap (rows_verdict (length rows)) (sought_all bad_row rows _ c.loop-place-test.false c.loop-place.invariant.0) ∙ cond-true _ _ _ (lt-ltb _ _ many));
-      words = (λ i h. c.loop-place.invariant.1 i (omega (arith, c.loop-place-test.false)), many);
-    }
+    let sought : c.position.result ≡ position bad_row rows = position_from_yields_List bad_row _ _ c.position.result c.position.ensures.ran (YieldsList-from_slice rows c.iter.ensures.rest) (λ x b q k. search (rules, tests)) ∙ sym (position_counted bad_row rows) in
+    let many : Err (carrying 6 256) ≡ rows_verdict (length rows) None = search (rules, tests) in
+    many ∙ ap (rows_verdict (length rows)) (sym c.in-None.is ∙ sought)
 
-pub returns : goal.returns
-returns c =
+pub returns-in-None-2-clause-answer : goal.returns-in-None-2-clause-answer
+returns-in-None-2-clause-answer c =
     let rows = c.args.rows.now in
-    let few = c.if-rows-gt-MAX_ROWS.false in
-    record {
-      answer = sym (ap (rows_verdict (length rows)) (sought_all bad_row rows _ c.loop-place-test.false c.loop-place.invariant.0) ∙ cond-false _ _ _ (le-ltb _ _ few));
-      words = (λ i h. c.loop-place.invariant.1 i (omega (arith, c.loop-place-test.false)), few);
-    }
+    let sought : c.position.result ≡ position bad_row rows = position_from_yields_List bad_row _ _ c.position.result c.position.ensures.ran (YieldsList-from_slice rows c.iter.ensures.rest) (λ x b q k. search (rules, tests)) ∙ sym (position_counted bad_row rows) in
+    let few : Ok (tt {0}) ≡ rows_verdict (length rows) None = search (rules, tests) in
+    few ∙ ap (rows_verdict (length rows)) (sym c.in-None.is ∙ sought)
