@@ -4,7 +4,7 @@ ghost use Rattle.refusals.specs.Answer.{answer_of};
 ghost use Rattle.numbers.specs.Input.{value_of, left_by};
 ghost use Rattle.numbers.specs.Reader.{input_of};
 ghost use Rattle.sheets.specs.Book.{book};
-ghost use Rattle.keyfile.specs.Files.{WhatIsReadWasSoWritten, AcceptedFilesAreAsWritten, EachSheetHasOneFile};
+ghost use Rattle.keyfile.specs.Files.{WhatIsReadWasSoWritten, AcceptedFilesAreAsWritten, EachSheetHasOneFile, WhatIsReadIsKnown};
 ghost use Rattle.keyfile.specs.Works.{works_by_stage, spelled_sheet, KnownByItsFile};
 ghost use Rattle.keyfile.specs.Reading.{ReadAs, repeated, giving};
 ghost use Rattle.keyfile.specs.Refusal.{file_told};
@@ -42,13 +42,14 @@ fn read_stage(reader: &mut Reader, sheet: &mut Sheet) -> Result<(), FileRefusal>
 
 // Reads a sheet and leaves what stands behind it: the stage count, then for each stage its task count and works. The
 // sheet that is opened for it goes to the lent place; where the reading is refused, that keeps its sheet.
-#[tactic(auto, using(crate::proofs::OnReadings::repeated_more, crate::proofs::OnFiles::what_is_read_was_so_written))]
+#[tactic(auto, using(crate::proofs::OnReadings::repeated_more, crate::proofs::OnFiles::what_is_read_was_so_written, crate::proofs::OnFiles::what_is_read_is_known))]
 pub fn read_sheet_from(reader: &mut Reader, sheet: &mut Sheet) -> Result<(), FileRefusal>
     ensures answer { answer_of file_told (giving (book sheet.new) result) ≡ value_of (sheet_in (input_of reader.old)) }
     ensures after { input_of reader.new ≡ left_by (sheet_in (input_of reader.old)) (input_of reader.old) }
     ensures refused_alters_nothing { is_err result ≡ true → sheet.new ≡ sheet.old }
     ensures known { OnOk result (KnownByItsFile sheet.new) }
     ensures read_as_written { WhatIsReadWasSoWritten }
+    ensures read_is_known { WhatIsReadIsKnown }
 {
     let mut ahead = *reader;
     let count = ahead.number()?;

@@ -1,4 +1,5 @@
 // The tariff that never quotes.
+ghost use Rattle.std.specs.Prelude.{◌≡◌, ℕ, None};
 ghost use Rattle.tariffs.specs.Never.{never_meaning, never_ranged};
 
 use crate::{MAX_MACHINES, Quote, Tariff};
@@ -12,7 +13,10 @@ pub struct NeverQuotes<C> {
 }
 
 impl<C> NeverQuotes<C> {
-    pub fn new() -> NeverQuotes<C> {
+    pub fn new() -> NeverQuotes<C>
+        ensures machines { (never_meaning result).count ≡ 32 }
+        ensures quotes_nothing { (machine work : ℕ) → (never_meaning result).quote machine work ≡ None }
+    {
         NeverQuotes { kind: PhantomData }
     }
 }
