@@ -41,11 +41,6 @@ stages_more tasks stage stages h =
     let e : stages - stage ≡ suc (stages - (stage + 1)) = omega arith in
     ap (λ n. flat_map spelled_stage (map (stage_works tasks) (range_with_len stage n))) e
 
-pub stages_all : (tasks : List Task) (stage stages : ℕ) → stages ≤ stage → stages_left tasks stage stages ≡ []
-stages_all tasks stage stages h =
-    let e : stages - stage ≡ 0 = omega arith in
-    ap (λ n. flat_map spelled_stage (map (stage_works tasks) (range_with_len stage n))) e
-
 pub stages_none : (tasks : List Task) (stages : ℕ) → stages_left tasks 0 stages ≡ flat_map spelled_stage (map (stage_works tasks) (range_with_len 0 stages))
 stages_none tasks stages =
     let e : stages - 0 ≡ stages = omega arith in

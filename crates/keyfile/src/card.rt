@@ -4,7 +4,7 @@ ghost use Rattle.refusals.specs.Answer.{answer_of};
 ghost use Rattle.numbers.specs.Input.{value_of, left_by};
 ghost use Rattle.numbers.specs.Reader.{input_of};
 ghost use Rattle.tariffs.specs.Card.{lines_of};
-ghost use Rattle.keyfile.specs.Reading.{ReadAs, repeated, viewed};
+ghost use Rattle.keyfile.specs.Reading.{ReadAs, viewed};
 ghost use Rattle.keyfile.specs.Refusal.{file_told};
 ghost use Rattle.keyfile.specs.Card.{line_in, card_in};
 

@@ -6,7 +6,7 @@ ghost use Rattle.numbers.specs.Reader.{input_of};
 ghost use Rattle.sheets.specs.Book.{book};
 ghost use Rattle.keyfile.specs.Files.{WhatIsReadWasSoWritten, AcceptedFilesAreAsWritten, EachSheetHasOneFile, WhatIsReadIsKnown};
 ghost use Rattle.keyfile.specs.Works.{works_by_stage, spelled_sheet, KnownByItsFile};
-ghost use Rattle.keyfile.specs.Reading.{ReadAs, repeated, giving};
+ghost use Rattle.keyfile.specs.Reading.{ReadAs, giving};
 ghost use Rattle.keyfile.specs.Refusal.{file_told};
 ghost use Rattle.keyfile.specs.Sheet.{task_in, stage_in, sheet_in, file_in};
 
