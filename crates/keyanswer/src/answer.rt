@@ -1,5 +1,4 @@
 // The answer to the input of a key.
-ghost use Rattle.std.specs.Prelude.{◌≡◌};
 ghost use Rattle.refusals.specs.Answer.{answer_of};
 ghost use Rattle.sheets.specs.Book.{book};
 ghost use Rattle.tariffs.specs.Card.{lines_of, lines_meaning};

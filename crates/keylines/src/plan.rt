@@ -1,5 +1,5 @@
 // The answer to a limit: the pair, then the machine of each standing task.
-ghost use Rattle.std.specs.Prelude.{◌≡◌, ◌≤◌, ◌++◌, length};
+ghost use Rattle.std.specs.Prelude.{◌≡◌, ◌≤◌, length};
 ghost use Rattle.sheets.specs.Book.{book};
 ghost use Rattle.texts.specs.Write.{Writes};
 ghost use Rattle.keylines.specs.Plan.{machines_from, machines_of, result_text};

@@ -1,6 +1,6 @@
 // The groups of seven bits of which a number's bytes are made.
-ghost use Rattle.std.specs.Prelude.{◌≡◌, ◌+◌, ◌*◌, ◌%◌, ◌^◌, ◌<◌, ◌≤◌, true, ◌++◌, length, Ok, Err};
-ghost use Rattle.numbers.specs.Number.{continues, ends_early, groups, limit, misspelt};
+ghost use Rattle.std.specs.Prelude.{◌≡◌, ◌+◌, ◌*◌, ◌%◌, ◌^◌, ◌<◌, ◌≤◌, ◌++◌, Ok, Err};
+ghost use Rattle.numbers.specs.Number.{continues, groups, limit};
 ghost use Rattle.numbers.specs.Fault.{Faulty, refusal_at};
 
 use crate::NumberRefusal;

@@ -1,7 +1,7 @@
 // The first row of cells, minute by minute.
 ghost use Rattle.std.specs.Prelude.{◌≡◌, ◌≤◌, ◌++◌, length, drop};
 ghost use Rattle.std.specs.Option.{option_to_list};
-ghost use Rattle.model.specs.Scan.{affordable, point_at, drops_below, first_below};
+ghost use Rattle.model.specs.Scan.{affordable, point_at, drops_below};
 ghost use Rattle.planner.specs.Row.{first_row};
 
 use cells::CellRows;

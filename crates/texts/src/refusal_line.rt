@@ -1,5 +1,4 @@
 // The line that tells of a refusal.
-ghost use Rattle.std.specs.Prelude.{◌≡◌};
 ghost use Rattle.texts.specs.Line.{line};
 ghost use Rattle.texts.specs.RefusalLine.{refusal_words};
 ghost use Rattle.texts.specs.Write.{Writes};

@@ -1,8 +1,8 @@
 // What a reader tells and takes.
-ghost use Rattle.std.specs.Prelude.{◌≡◌, ◌++◌, length, IfOk, ◌==◌};
+ghost use Rattle.std.specs.Prelude.{◌≡◌, length, IfOk, ◌==◌};
 ghost use Rattle.refusals.specs.Answer.{answer_of};
 ghost use Rattle.numbers.specs.Input.{input, value_of, left_by};
-ghost use Rattle.numbers.specs.Number.{number_in, spelled};
+ghost use Rattle.numbers.specs.Number.{number_in};
 ghost use Rattle.numbers.specs.Refusal.{number_told};
 ghost use Rattle.numbers.specs.Reader.{input_of};
 ghost use Rattle.numbers.specs.Spellings.{OneSpelling, SpellingsAreRead, OnlySpellingsAreRead, SpelledAt};

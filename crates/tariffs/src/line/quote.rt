@@ -1,6 +1,6 @@
 // What a line of a rate card quotes.
 ghost use Rattle.std.specs.Prelude.{◌≡◌};
-ghost use Rattle.tariffs.specs.Line.{line_in_range, line_answer, line_quote};
+ghost use Rattle.tariffs.specs.Line.{line_answer, line_quote};
 
 use crate::{Line, MAX_MINUTES, Quote, charge_for};
 use costs::Cents;
