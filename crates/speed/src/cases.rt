@@ -1,8 +1,8 @@
 // The sheets and tariffs that are timed.
-use crate::sequence::Sequence;
 use sheets::Sheet;
 use std::array;
 use tariffs::{RateCard, Row};
+use trials::Sequence;
 
 // The speed of a card's slowest machine.
 const SLOWEST: u32 = 100;
@@ -44,7 +44,7 @@ impl Shape {
 
     // Tasks in each stage in turn. The first of a stage takes the longest time on the slowest machine.
     pub(crate) fn sheet(self) -> Sheet {
-        let mut sequence = Sequence::new();
+        let mut sequence = first_numbers();
         let mut sheet = open_stages(self.stages);
         let most = self.longest.wrapping_mul(SLOWEST);
         for number in 0..self.tasks {
@@ -60,7 +60,7 @@ impl Shape {
 
     // Machines of any speed up to ten times the slowest; the faster, the dearer a unit of work.
     pub(crate) fn card(self) -> RateCard {
-        let mut sequence = Sequence::new();
+        let mut sequence = first_numbers();
         let mut card = RateCard::new();
         for machine in 0..self.machines {
             let speed = if machine == 0 {
@@ -76,6 +76,11 @@ impl Shape {
         }
         card
     }
+}
+
+// Each case takes the same numbers.
+fn first_numbers() -> Sequence {
+    Sequence::behind(1)
 }
 
 fn open_stages(stages: usize) -> Sheet {
@@ -97,7 +102,7 @@ pub(crate) fn table_sheet() -> Sheet {
 
 // Four rows for each of these tasks; the faster, the higher the grade.
 pub(crate) fn table_rows() -> [Row; 256] {
-    let mut sequence = Sequence::new();
+    let mut sequence = first_numbers();
     array::from_fn(|number| {
         let minutes = sequence.next(1, 1_440);
         Row {

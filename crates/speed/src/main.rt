@@ -1,10 +1,8 @@
 // `speed CASE RUNS` times the planner on a case, each step so many times.
 #![tactic(auto)]
 
-mod amount;
 mod cases;
 mod memory;
-mod sequence;
 mod sums;
 mod timing;
 

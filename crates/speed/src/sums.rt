@@ -1,8 +1,8 @@
 // Sums of what the planner found, by which two planners are compared.
-use crate::amount::Amount;
 use cells::quoted_times;
 use model::{Cell, Point, PricedSheet};
 use tariffs::Tariff;
+use trials::Amount;
 
 fn mixed(sum: u64, number: u64) -> u64 {
     sum.wrapping_mul(31).wrapping_add(number)

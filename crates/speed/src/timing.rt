@@ -1,5 +1,4 @@
 // The timing of a case, and what the planner finds in it.
-use crate::amount::Amount;
 use crate::memory::Memory;
 use crate::sums::{cells_sum, plan_sum, points_sum, times_count};
 use anyhow::anyhow;
@@ -10,6 +9,7 @@ use sheets::Sheet;
 use std::num::NonZeroU32;
 use std::time::Instant;
 use tariffs::Tariff;
+use trials::Amount;
 
 // How often each step is run, and where its time is printed.
 #[derive(Clone, Copy)]
