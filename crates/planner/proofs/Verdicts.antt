@@ -1,5 +1,5 @@
--- The verdict on two sheets, for all calls that they have known
-use Rattle.std.proofs.Common.{◌≡◌, Bool, true, false, ◌||◌, ◌↔◌, List, Ok, Err, Result, sym, ap, ◌∙◌, ap₂}
+-- The verdict on two sheets, whatever calls they have known
+use Rattle.std.proofs.Common.{◌≡◌, Bool, true, false, ◌||◌, ◌↔◌, List, Ok, Err, Result, sym, ap, ◌∙◌, ap₂, subst}
 use Rattle.refusals.specs.Answer.{Answer, answer_of, refused_if}
 use Rattle.costs.specs.Kind.{Kind, Laws}
 use Rattle.tariffs.specs.Meaning.{Meaning, Ranged}
@@ -8,6 +8,7 @@ use Rattle.sheets.specs.declared.sheet.Sheet.{Sheet}
 use Rattle.sheets.specs.Book.{Book, book}
 use Rattle.sheets.specs.History.{book_after}
 use Rattle.sheets.proofs.Histories.{book_sound}
+use Rattle.sheets.proofs.Calls.{every_sheet_has_known_some_calls}
 use Rattle.model.specs.declared.cell.Cell.{Cell}
 use Rattle.model.specs.declared.point.Point.{Point}
 use Rattle.model.specs.Front.{front}
@@ -56,7 +57,11 @@ module _ {C : Type 0} {K : Kind C} (laws : Laws K) (T U : Meaning C) (F : Ranged
   pub verdict_holds : (sheet other : Sheet) (cells : List (Cell C)) (mine yours : List (Point C)) (r : Result Bool QuestionRefusal)
       → answer_of question_told r ≡ bargains_answer K T (book sheet) U (book other) cells mine yours → VerdictHolds K T sheet U other r
   verdict_holds sheet other cells mine yours (Err refusal) e = tt
-  verdict_holds sheet other cells mine yours (Ok equal) e = λ calls others known kept.
-      verdict calls others equal
+  verdict_holds sheet other cells mine yours (Ok equal) e =
+      let mine_known = every_sheet_has_known_some_calls sheet in
+      let yours_known = every_sheet_has_known_some_calls other in
+      subst (λ (b : Book). Verdict K T b U (book other) equal) (sym mine_known.1)
+      (subst (λ (o : Book). Verdict K T (book_after mine_known.0) U o equal) (sym yours_known.1)
+      (verdict mine_known.0 yours_known.0 equal
       (ok_through (few_for_both K T (book sheet) U (book other) cells mine yours) (short_mine K T (book sheet) U (book other) cells mine yours || short_yours K T (book sheet) U (book other) cells mine yours) (same_points K (front K T (book sheet)) (front K U (book other))) equal e
-      ∙ ap₂ (λ (b o : Book). same_points K (front K T b) (front K U o)) known kept)
+      ∙ ap₂ (λ (b o : Book). same_points K (front K T b) (front K U o)) mine_known.1 yours_known.1)))

@@ -5,8 +5,8 @@ use Rattle.costs.specs.Kind.{Kind}
 use Rattle.tariffs.specs.Meaning.{Meaning}
 use Rattle.sheets.specs.declared.call.Call.{Call}
 use Rattle.sheets.specs.declared.sheet.Sheet.{Sheet}
-use Rattle.sheets.specs.Book.{Book}
-use Rattle.sheets.specs.History.{book_after, Known}
+use Rattle.sheets.specs.Book.{Book, book}
+use Rattle.sheets.specs.History.{book_after}
 use Rattle.model.specs.declared.cell.Cell.{Cell}
 use Rattle.model.specs.declared.point.Point.{Point}
 use Rattle.model.specs.Front.{front}
@@ -71,7 +71,7 @@ pub record Verdict {C : Type 0} (K : Kind C) (T : Meaning C) (book : Book) (U : 
   pub by_assignments : (equal ≡ true) ↔ (Matched K T book U other × Matched K U other T book)
   pub by_limits : (mine yours : Memory C) → Enough K T book mine → Enough K U other yours → (equal ≡ true) ↔ SameAnswers K T book mine U other yours
 
--- the verdict of a call on two sheets, for all calls that the sheets have known
+-- the verdict of a call on two sheets
 abbrev pub VerdictHolds : {C : Type 0} → Kind C → Meaning C → Sheet → Meaning C → Sheet → Result Bool QuestionRefusal → Type 0
-VerdictHolds K T sheet U other (Ok equal) = (calls others : List Call) → Known sheet calls → Known other others → Verdict K T (book_after calls) U (book_after others) equal
+VerdictHolds K T sheet U other (Ok equal) = Verdict K T (book sheet) U (book other) equal
 VerdictHolds K T sheet U other (Err refusal) = Unit {0}

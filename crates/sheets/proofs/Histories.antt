@@ -63,7 +63,7 @@ found_append view a none [] others n found = cc
 found_append view a none (task ∷ tasks) others zero found = found
 found_append view a none (task ∷ tasks) others (suc n) found = found_append view a none tasks others n found
 
-found_push : (tasks : List Task) (task : Task) → slice_get (tasks ++ (task ∷ [])) (length tasks) ≡ Some task
+pub found_push : (tasks : List Task) (task : Task) → slice_get (tasks ++ (task ∷ [])) (length tasks) ≡ Some task
 found_push [] task = refl
 found_push (other ∷ tasks) task = found_push tasks task
 

@@ -31,6 +31,10 @@ pub record Sound (book : Book) : Type 0 where
   pub few_tasks : length book.tasks ≤ max_tasks
   pub tasks_sound : AllByRecursion (SoundTask book.stages) book.tasks
 
+-- every sheet has known some list of calls, so what is said of every history is said of every sheet
+abbrev pub EverySheetHasKnownSomeCalls : Type 0
+EverySheetHasKnownSomeCalls = (sheet : Sheet) → (calls : List Call) × Known sheet calls
+
 -- the laws of every history
 
 abbrev pub EveryBookIsSound : Type 0

@@ -3,7 +3,7 @@ ghost use Rattle.std.specs.Prelude.{◌≡◌, true, is_err};
 ghost use Rattle.refusals.specs.Answer.{answer_of};
 ghost use Rattle.sheets.specs.Refusals.{sheet_told};
 ghost use Rattle.sheets.specs.Book.{book, answer, step};
-ghost use Rattle.sheets.specs.History.{Known, KnownFurther, EveryBookIsSound, TaskNumbersAreNeverReused, TasksKeepTheirStages, StruckTasksStayAsTheyAre, RefusedCallsCanBeLeftOut};
+ghost use Rattle.sheets.specs.History.{Known, KnownFurther, EverySheetHasKnownSomeCalls, EveryBookIsSound, TaskNumbersAreNeverReused, TasksKeepTheirStages, StruckTasksStayAsTheyAre, RefusedCallsCanBeLeftOut};
 ghost use Rattle.sheets.specs.Applies.{TheSmallestRefusalIsTold};
 
 use crate::call::Call;
@@ -31,6 +31,7 @@ impl Sheet {
     // The sheet that has known these calls, refused ones included.
     pub fn replay(calls: &[Call]) -> Sheet
         ensures known { Known result calls.now }
+        ensures every_sheet_known { EverySheetHasKnownSomeCalls }
         ensures smallest_refusal_told { TheSmallestRefusalIsTold }
         ensures books_sound { EveryBookIsSound }
         ensures numbers_never_reused { TaskNumbersAreNeverReused }
