@@ -12,7 +12,7 @@ use Rattle.sheets.specs.declared.sheet.Sheet.{Sheet}
 use Rattle.sheets.specs.declared.task.Task.{Task}
 use Rattle.sheets.specs.Tasks.{stands, reworked, struck_out, no_task, SoundTask}
 use Rattle.sheets.specs.Book.{Book, accepted, answer, book, changed, checked, number, obeyed, opened, step}
-use Rattle.sheets.specs.History.{after, book_after, Sound, EveryBookIsSound, TaskNumbersAreNeverReused, TasksKeepTheirStages, StruckTasksStayAsTheyAre, RefusedCallsCanBeLeftOut}
+use Rattle.sheets.specs.History.{after, book_after, Sound, EveryBookIsSound, TaskNumbersAreNeverReused, TasksKeepTheirStages, StruckTasksStayAsTheyAre, OtherTasksStayAsTheyAre, RefusedCallsCanBeLeftOut}
 use Rattle.sheets.proofs.Books.{stage_fits, task_fits, task_sound, rework_stands, rework_in_range, strike_stands, step_accepted}
 use Rattle.sheets.proofs.Sheets.{count_is, sound_within}
 
@@ -170,6 +170,20 @@ obeyed_struck n task struck b Deadline e found = found
 pub struck_tasks_stay_as_they_are : StruckTasksStayAsTheyAre
 struck_tasks_stay_as_they_are calls others number task found struck =
     rw (after_append opened calls others) (after_keeps (λ b. slice_get b.tasks number ≡ Some task) (obeyed_struck number task struck) (book_after calls) others found)
+
+-- other tasks: whatever the call's checks say
+kept_by_step : (other : ℕ) (b : Book) (call : Call) → slice_get (obeyed b call).tasks other ≡ slice_get b.tasks other → slice_get (step b call).tasks other ≡ slice_get b.tasks other
+kept_by_step other b call kept = by (checked b call)
+  where
+    by : (checks : Answer (Unit {0})) → slice_get (elim checks as (λ _. Book) [ Ok _ ↦ obeyed b call | Err refused ↦ b ]).tasks other ≡ slice_get b.tasks other
+    by (Ok _) = kept
+    by (Err refused) = refl
+
+pub other_tasks_stay_as_they_are : OtherTasksStayAsTheyAre
+other_tasks_stay_as_they_are b number other work differ = (
+  kept_by_step other b (Rework number work) (found_other (reworked work) number b.tasks other differ),
+  kept_by_step other b (Strike number) (found_other struck_out number b.tasks other differ),
+)
 
 -- refused calls
 step_refused : (b : Book) (call : Call) (refused : Refused) → answer b call ≡ Err refused → step b call ≡ b

@@ -4,7 +4,7 @@ use Rattle.std.specs.Option.{option_map}
 use Rattle.std.specs.List.{AllByRecursion, slice_get}
 use Rattle.refusals.specs.Answer.{Refused}
 use Rattle.sheets.specs.declared.call.Call.{Call}
-use Rattle.sheets.specs.declared.call.Call.TheVariants.{Task as NewTask}
+use Rattle.sheets.specs.declared.call.Call.TheVariants.{Task as NewTask, Rework, Strike}
 use Rattle.sheets.specs.declared.sheet.Sheet.{Sheet}
 use Rattle.sheets.specs.declared.task.Task.{Task}
 use Rattle.sheets.specs.Tasks.{max_stages, max_tasks, SoundTask}
@@ -61,6 +61,14 @@ StruckTasksStayAsTheyAre =
     → slice_get (book_after calls).tasks number ≡ Some task
     → task.struck ≡ true
     → slice_get (book_after (calls ++ others)).tasks number ≡ Some task
+
+-- rework and strike leave every task of another number alone
+abbrev pub OtherTasksStayAsTheyAre : Type 0
+OtherTasksStayAsTheyAre =
+    (book : Book) (number other work : ℕ)
+    → (number ≡ other → ⊥)
+    → (slice_get (step book (Rework number work)).tasks other ≡ slice_get book.tasks other)
+    × (slice_get (step book (Strike number)).tasks other ≡ slice_get book.tasks other)
 
 abbrev pub RefusedCallsCanBeLeftOut : Type 0
 RefusedCallsCanBeLeftOut =

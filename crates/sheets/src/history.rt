@@ -3,7 +3,7 @@ ghost use Rattle.std.specs.Prelude.{◌≡◌, true, is_err};
 ghost use Rattle.refusals.specs.Answer.{answer_of};
 ghost use Rattle.sheets.specs.Refusals.{sheet_told};
 ghost use Rattle.sheets.specs.Book.{book, answer, step};
-ghost use Rattle.sheets.specs.History.{Known, KnownFurther, EverySheetHasKnownSomeCalls, EveryBookIsSound, TaskNumbersAreNeverReused, TasksKeepTheirStages, StruckTasksStayAsTheyAre, RefusedCallsCanBeLeftOut};
+ghost use Rattle.sheets.specs.History.{Known, KnownFurther, EverySheetHasKnownSomeCalls, EveryBookIsSound, TaskNumbersAreNeverReused, TasksKeepTheirStages, StruckTasksStayAsTheyAre, OtherTasksStayAsTheyAre, RefusedCallsCanBeLeftOut};
 ghost use Rattle.sheets.specs.Applies.{TheSmallestRefusalIsTold};
 
 use crate::call::Call;
@@ -37,6 +37,7 @@ impl Sheet {
         ensures numbers_never_reused { TaskNumbersAreNeverReused }
         ensures stages_kept { TasksKeepTheirStages }
         ensures struck_tasks_kept { StruckTasksStayAsTheyAre }
+        ensures other_tasks_kept { OtherTasksStayAsTheyAre }
         ensures refused_left_out { RefusedCallsCanBeLeftOut }
     {
         let mut sheet = Sheet::open();

@@ -1,7 +1,7 @@
 use Rattle.std.proofs.Common.{ap, ◌∙◌, arith}
 use Rattle.std.proofs.lemmas.List.{take_all}
 use Rattle.sheets.specs.History.{book_after}
-use Rattle.sheets.proofs.Histories.{book_sound, task_numbers_are_never_reused, tasks_keep_their_stages, struck_tasks_stay_as_they_are, refused_calls_can_be_left_out}
+use Rattle.sheets.proofs.Histories.{book_sound, task_numbers_are_never_reused, tasks_keep_their_stages, struck_tasks_stay_as_they_are, other_tasks_stay_as_they_are, refused_calls_can_be_left_out}
 use Rattle.sheets.proofs.Calls.{every_sheet_has_known_some_calls}
 use Rattle.sheets.proofs.Applies.{the_smallest_refusal_is_told}
 use Rattle.sheets.proofs.sheet.Sheet.replay.Goals as goal
@@ -15,5 +15,6 @@ returns c = record {
   numbers_never_reused = task_numbers_are_never_reused;
   stages_kept = tasks_keep_their_stages;
   struck_tasks_kept = struck_tasks_stay_as_they_are;
+  other_tasks_kept = other_tasks_stay_as_they_are;
   refused_left_out = refused_calls_can_be_left_out;
 }
