@@ -86,7 +86,7 @@ good r e =
       time = (ltb-false _ _ s.0, ltb-false _ _ t.0);
     }
 
-mapped_none : {A B : Type 0} (f : A → B) (o : Option A) → option_map f o ≡ None → o ≡ None
+pub mapped_none : {A B : Type 0} (f : A → B) (o : Option A) → option_map f o ≡ None → o ≡ None
 mapped_none f None e = refl
 mapped_none f (Some x) e = absurd (none-some (f x) (sym e))
 
