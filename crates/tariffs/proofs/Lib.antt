@@ -2,3 +2,4 @@ pub mod SameLine
 pub mod Cards
 pub mod Firsts
 pub mod Tables
+pub mod RoundedUps

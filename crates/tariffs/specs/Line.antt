@@ -5,7 +5,7 @@ use Rattle.costs.specs.declared.cents.Cents.{Cents}
 use Rattle.tariffs.specs.declared.line.Line.{Line}
 use Rattle.tariffs.specs.declared.quote.Quote.{Quote}
 use Rattle.tariffs.specs.Charge.{charge_of}
-use Rattle.tariffs.specs.RoundedUp.{rounded_up}
+use Rattle.tariffs.specs.RoundedUp.{rounded_up, LeastCover}
 
 abbrev pub line_in_range : ℕ → ℕ → Bool
 line_in_range speed rate = nat_le 1 speed && (nat_le speed 10000 && nat_le rate 1000000)
@@ -26,6 +26,10 @@ line_answer speed rate = cond (line_in_range speed rate) (Some (line speed rate)
 -- the time for a work, in minutes: the work divided by the speed, rounded up
 abbrev pub line_time : Line → ℕ → ℕ
 line_time l work = rounded_up work l.speed
+
+-- the law of it: the least whole number of minutes in which the speed covers the work
+abbrev pub TimesAreLeast : Type 0
+TimesAreLeast = (l : Line) (work : ℕ) → LeastCover l.speed work (line_time l work)
 
 -- none above 1,440 minutes
 abbrev pub line_quote : Line → ℕ → Option (Quote Cents)

@@ -1,6 +1,6 @@
 // What a line of a rate card quotes.
 ghost use Rattle.std.specs.Prelude.{◌≡◌};
-ghost use Rattle.tariffs.specs.Line.{line_answer, line_quote};
+ghost use Rattle.tariffs.specs.Line.{line_answer, line_quote, TimesAreLeast};
 
 use crate::{Line, MAX_MINUTES, Quote, charge_for};
 use costs::Cents;
@@ -12,7 +12,8 @@ const MAX_RATE: u32 = 1_000_000;
 impl Line {
     // The line of this speed and rate, if both are in range.
     pub fn new(speed: u32, rate: u32) -> Option<Line>
-        ensures { result ≡ line_answer speed rate }
+        ensures value { result ≡ line_answer speed rate }
+        ensures times_least { TimesAreLeast }
     {
         if !(1..=MAX_SPEED).contains(&speed) || rate > MAX_RATE {
             return None;
