@@ -12,11 +12,11 @@ pub mod Rows
 pub mod Scans
 pub mod FirstLists
 pub mod Unquoted
+pub mod Loops
 pub mod LimitsInWords
 pub mod Shares
 pub mod Plans
 pub mod Bargains
-pub mod Loops
 pub mod Joins
 pub mod Questions
 pub mod CostSteps

@@ -1,5 +1,5 @@
 -- Budgets and deadlines in words
-use Rattle.std.proofs.Common.{◌≡◌, ℕ, ◌<◌, Bool, true, false, leb, ◌↔◌, List, is_some, Some, None, Ok, Err, filter, Option, sym, refl, ap, ◌∙◌, subst, inl, inr, le_antisymm, arith}
+use Rattle.std.proofs.Common.{◌≡◌, ℕ, ◌<◌, ◌≤◌, min, Bool, true, false, leb, ◌↔◌, List, is_some, Some, None, Ok, Err, filter, Option, sym, refl, ap, ◌∙◌, subst, inl, inr, le_antisymm, arith}
 use Rattle.std.proofs.lemmas.Bool.{both_ways, leb-true, le-leb, cases_Bool, cases_lt}
 use Rattle.refusals.specs.Answer.{Refused, plain, carrying}
 use Rattle.costs.specs.Kind.{Kind, Laws}
@@ -10,11 +10,13 @@ use Rattle.sheets.proofs.Histories.{book_sound}
 use Rattle.model.specs.declared.point.Point.{Point}
 use Rattle.model.specs.Lists.{least}
 use Rattle.model.specs.Assignment.{standing, pairs, HasPair}
+use Rattle.model.specs.Cell.{span}
 use Rattle.model.specs.Limit.{shorter_then_cheaper, cheaper_then_shorter, lowest_unquoted, or_none_within, unless_unquoted, within_budget, within_deadline, budget_result, deadline_result, IsBudget, IsDeadline, Unquoted, IsLowestUnquoted, LimitsGiveBestPairs}
 use Rattle.model.proofs.Lists.{in_kept_by, of_kept_by, not_empty}
 use Rattle.model.proofs.Leasts.{Least, least_is, least_unique, least_none}
 use Rattle.model.proofs.Assignments.{in_pairs, of_pairs}
 use Rattle.model.proofs.Limits.{shorter_first, shorter_parts, shorter_from, cheaper_first, cheaper_parts, cheaper_from, cheaper_dear, Cheaper}
+use Rattle.model.proofs.Loops.{deadline_held}
 use Rattle.model.proofs.Unquoted.{none_unquoted, lowest_is, all_quoted}
 
 -- what is found is the least
@@ -157,6 +159,12 @@ module _ {C : Type 0} {K : Kind C} (L : Laws K) (T : Meaning C) (F : Ranged T) (
       let f = refused_unquoted (lowest_unquoted T b) o n in
       ((λ h. f.0 (e.0 h)), λ h. e.1 (f.1 h))
 
+  past_the_span : (limit : ℕ) → span T (standing b) ≤ limit → deadline_result K T b limit ≡ deadline_result K T b (span T (standing b))
+  past_the_span limit past =
+      let held : min limit (span T (standing b)) ≡ span T (standing b) = omega arith in
+      ap (λ (o : Option (Point C)). unless_unquoted (lowest_unquoted T b) (or_none_within o))
+      (deadline_held L T F (standing b) limit ∙ ap (within_deadline K T (standing b)) held)
+
 pub limits_give_best_pairs : {C : Type 0} {K : Kind C} → Laws K → LimitsGiveBestPairs K
 limits_give_best_pairs {C} {K} L T F calls = record {
   budgets = budget_words L T F (book_after calls) (book_sound calls);
@@ -165,4 +173,5 @@ limits_give_best_pairs {C} {K} L T F calls = record {
   deadline_unquoted = λ limit n. lowest_refused L T F (book_after calls) (within_deadline K T (standing (book_after calls)) limit) n;
   none_affordable = none_affordable L T F (book_after calls);
   none_in_time = none_in_time L T F (book_after calls);
+  deadline_held = past_the_span L T F (book_after calls);
 }

@@ -13,6 +13,7 @@ use Rattle.sheets.specs.declared.task.Task.{Task}
 use Rattle.model.specs.declared.point.Point.{Point}
 use Rattle.model.specs.Lists.{is_empty, least}
 use Rattle.model.specs.Assignment.{standing, quote_of, quoting, pairs, HasPair}
+use Rattle.model.specs.Cell.{span}
 
 module _ {C : Type 0} (K : Kind C) where
   -- shorter, or as long and no dearer
@@ -94,6 +95,8 @@ pub record LimitsInWords {C : Type 0} (K : Kind C) (T : Meaning C) (book : Book)
       → (((n : ℕ) → Unquoted T book n → ⊥) × ((p : Point C) → HasPair K T (standing book) p → K.at_most p.cost limit ≡ false)) ↔ (budget_result K T book limit ≡ Err (plain 10))
   pub none_in_time : (limit : ℕ)
       → (((n : ℕ) → Unquoted T book n → ⊥) × ((p : Point C) → HasPair K T (standing book) p → limit < p.length)) ↔ (deadline_result K T book limit ≡ Err (plain 10))
+  -- a deadline past the span is the same as the span
+  pub deadline_held : (limit : ℕ) → span T (standing book) ≤ limit → deadline_result K T book limit ≡ deadline_result K T book (span T (standing book))
 
 -- for every tariff in the cost kind and every history of calls
 abbrev pub LimitsGiveBestPairs : {C : Type 0} → Kind C → Type 0
