@@ -12,6 +12,7 @@ pub mod Rows
 pub mod Scans
 pub mod FirstLists
 pub mod Unquoted
+pub mod FrontEnds
 pub mod Loops
 pub mod LimitsInWords
 pub mod Shares

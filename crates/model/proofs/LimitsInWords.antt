@@ -9,9 +9,9 @@ use Rattle.sheets.specs.History.{Sound, book_after}
 use Rattle.sheets.proofs.Histories.{book_sound}
 use Rattle.model.specs.declared.point.Point.{Point}
 use Rattle.model.specs.Lists.{least}
-use Rattle.model.specs.Assignment.{standing, pairs, HasPair}
+use Rattle.model.specs.Assignment.{standing, pairs, HasPair, Unquoted}
 use Rattle.model.specs.Cell.{span}
-use Rattle.model.specs.Limit.{shorter_then_cheaper, cheaper_then_shorter, lowest_unquoted, or_none_within, unless_unquoted, within_budget, within_deadline, budget_result, deadline_result, IsBudget, IsDeadline, Unquoted, IsLowestUnquoted, LimitsGiveBestPairs}
+use Rattle.model.specs.Limit.{shorter_then_cheaper, cheaper_then_shorter, lowest_unquoted, or_none_within, unless_unquoted, within_budget, within_deadline, budget_result, deadline_result, IsBudget, IsDeadline, IsLowestUnquoted, LimitsGiveBestPairs}
 use Rattle.model.proofs.Lists.{in_kept_by, of_kept_by, not_empty}
 use Rattle.model.proofs.Leasts.{Least, least_is, least_unique, least_none}
 use Rattle.model.proofs.Assignments.{in_pairs, of_pairs}

@@ -11,8 +11,8 @@ use Rattle.sheets.specs.History.{Sound}
 use Rattle.sheets.specs.Tasks.{SoundTask}
 use Rattle.sheets.specs.declared.task.Task.{Task}
 use Rattle.model.specs.Lists.{In, here, later, any, is_empty}
-use Rattle.model.specs.Assignment.{stage_tasks, standing, quoting, assignments, pair_of, pairs}
-use Rattle.model.specs.Limit.{unquoted, lowest_unquoted, Unquoted, IsLowestUnquoted}
+use Rattle.model.specs.Assignment.{stage_tasks, standing, quoting, assignments, pair_of, pairs, Unquoted}
+use Rattle.model.specs.Limit.{unquoted, lowest_unquoted, IsLowestUnquoted}
 use Rattle.model.proofs.Lists.{not_empty, is_empty_map, in_map, of_map, in_counting, any_of, of_any}
 use Rattle.model.proofs.Assignments.{in_quoting, of_quoting, none_assigned, in_stage, of_stage}
 

@@ -1,6 +1,6 @@
 -- Standing tasks, their assignments, and the lengths and costs of these
-use Rattle.std.specs.Prelude.{◌≡◌, ℕ, ◌+◌, max, ◌↔◌, List, [], ◌∷◌, map, is_some, Some, None, filter, Option}
-use Rattle.std.specs.List.{range_with_len}
+use Rattle.std.specs.Prelude.{◌≡◌, ℕ, ◌+◌, max, false, ◌↔◌, List, [], ◌∷◌, map, is_some, Some, None, filter, Option, ◌≢◌}
+use Rattle.std.specs.List.{range_with_len, slice_get}
 use Rattle.costs.specs.Kind.{Kind}
 use Rattle.tariffs.specs.Meaning.{Meaning, Ranged}
 use Rattle.tariffs.specs.declared.quote.Quote.{Quote}
@@ -44,6 +44,10 @@ module _ {C : Type 0} (T : Meaning C) where
   -- the machines that quote a task
   abbrev pub quoting : Task → List ℕ
   quoting task = filter (λ machine. is_some (quote_of task machine)) (range_with_len 0 T.count)
+
+  -- the task of this number stands and no machine quotes it
+  abbrev pub Unquoted : Book → ℕ → Type 0
+  Unquoted book n = (task : Task) × (slice_get book.tasks n ≡ Some task) × (task.struck ≡ false) × ((machine : ℕ) (q : Quote C) → quote_of task machine ≢ Some q)
 
   -- all assignments
   abbrev pub assignments : List (List Task) → List (List (List ℕ))

@@ -1,12 +1,14 @@
 -- Fronts
-use Rattle.std.specs.Prelude.{◌≡◌, ◌<◌, ◌≤◌, Bool, true, cond, not, ◌&&◌, ◌↔◌, List, [], ◌∷◌, filter, ◌≢◌, nat_le, nat_lt}
+use Rattle.std.specs.Prelude.{◌≡◌, ℕ, ◌<◌, ◌≤◌, Bool, true, cond, not, ◌&&◌, ◌↔◌, List, [], ◌∷◌, filter, ◌≢◌, nat_le, nat_lt}
 use Rattle.costs.specs.Kind.{Kind}
 use Rattle.tariffs.specs.Meaning.{Meaning, Ranged}
 use Rattle.sheets.specs.Book.{Book}
+use Rattle.sheets.specs.History.{book_after}
+use Rattle.sheets.specs.declared.call.Call.{Call}
 use Rattle.sheets.specs.declared.task.Task.{Task}
 use Rattle.model.specs.declared.point.Point.{Point}
 use Rattle.model.specs.Lists.{In, any}
-use Rattle.model.specs.Assignment.{standing, pairs, HasPair}
+use Rattle.model.specs.Assignment.{standing, pairs, HasPair, Unquoted}
 
 module _ {C : Type 0} where
   -- put in by rising length; a pair of a length that is there already is dropped
@@ -60,3 +62,10 @@ abbrev pub FrontListsUnbeatenPairs : {C : Type 0} → Kind C → Type 0
 FrontListsUnbeatenPairs {C} K =
     (T : Meaning C) → Ranged T → (stages : List (List Task)) (ps : List (Point C))
     → IsFront K T stages ps ↔ (ps ≡ front_of K (pairs K T stages))
+
+-- for every tariff in the cost kind and every history of calls
+pub record FrontsWithoutStagesOrQuotes {C : Type 0} (K : Kind C) : Type 0 where
+  -- without stages the only pair is 0 minutes at the neutral cost
+  pub no_stages : (T : Meaning C) (calls : List Call) → (book_after calls).stages ≡ 0 → front K T (book_after calls) ≡ record { length = 0; cost = K.neutral } ∷ []
+  -- a standing task without any quote makes the front empty
+  pub no_quote : (T : Meaning C) → Ranged T → (calls : List Call) (n : ℕ) → Unquoted T (book_after calls) n → front K T (book_after calls) ≡ []

@@ -1,18 +1,16 @@
 -- Budgets and deadlines
-use Rattle.std.specs.Prelude.{◌≡◌, ℕ, ◌<◌, ◌≤◌, Bool, true, false, not, ◌&&◌, ◌||◌, leb, ◌↔◌, List, Some, None, Ok, Err, filter, Option, ◌==◌, ◌≢◌, nat_le, nat_lt}
-use Rattle.std.specs.List.{slice_get}
+use Rattle.std.specs.Prelude.{◌≡◌, ℕ, ◌<◌, ◌≤◌, Bool, true, false, not, ◌&&◌, ◌||◌, leb, ◌↔◌, List, Some, None, Ok, Err, filter, Option, ◌==◌, nat_le, nat_lt}
 use Rattle.refusals.specs.Answer.{Answer, plain, carrying}
 use Rattle.costs.specs.Kind.{Kind}
 use Rattle.tariffs.specs.First.{position}
 use Rattle.tariffs.specs.Meaning.{Meaning, Ranged}
-use Rattle.tariffs.specs.declared.quote.Quote.{Quote}
 use Rattle.sheets.specs.Book.{Book}
 use Rattle.sheets.specs.History.{book_after}
 use Rattle.sheets.specs.declared.call.Call.{Call}
 use Rattle.sheets.specs.declared.task.Task.{Task}
 use Rattle.model.specs.declared.point.Point.{Point}
 use Rattle.model.specs.Lists.{is_empty, least}
-use Rattle.model.specs.Assignment.{standing, quote_of, quoting, pairs, HasPair}
+use Rattle.model.specs.Assignment.{standing, quoting, pairs, HasPair, Unquoted}
 use Rattle.model.specs.Cell.{span}
 
 module _ {C : Type 0} (K : Kind C) where
@@ -74,14 +72,9 @@ module _ {C : Type 0} (K : Kind C) (T : Meaning C) where
     pub cheapest : (q : Point C) → HasPair K T stages q → q.length ≤ limit → K.at_most p.cost q.cost ≡ true
     pub shortest : (q : Point C) → HasPair K T stages q → q.cost ≡ p.cost → p.length ≤ q.length
 
-module _ {C : Type 0} (T : Meaning C) (book : Book) where
-  -- the task of this number stands and no machine quotes it
-  abbrev pub Unquoted : ℕ → Type 0
-  Unquoted n = (task : Task) × (slice_get book.tasks n ≡ Some task) × (task.struck ≡ false) × ((m : ℕ) (q : Quote C) → quote_of T task m ≢ Some q)
-
-  -- and no lower one does
-  abbrev pub IsLowestUnquoted : ℕ → Type 0
-  IsLowestUnquoted n = Unquoted n × ((m : ℕ) → m < n → Unquoted m → ⊥)
+-- the task of this number stands and no machine quotes it, and no lower one does
+abbrev pub IsLowestUnquoted : {C : Type 0} → Meaning C → Book → ℕ → Type 0
+IsLowestUnquoted T book n = Unquoted T book n × ((m : ℕ) → m < n → Unquoted T book m → ⊥)
 
 -- the results say what the words say
 pub record LimitsInWords {C : Type 0} (K : Kind C) (T : Meaning C) (book : Book) : Type 0 where

@@ -4,7 +4,7 @@ ghost use Rattle.model.specs.Allowance.{CheapestIsCheapest, GreatestTimesAreQuot
 ghost use Rattle.model.specs.Assignment.{AssignmentsAreAll};
 ghost use Rattle.model.specs.Bargain.{EnoughMemoryIsAnswered, EqualFrontsMeanSameBargains};
 ghost use Rattle.model.specs.Cell.{CellsStandAtTheirPlaces, LeastCostsShareOutMinutes};
-ghost use Rattle.model.specs.Front.{FrontListsUnbeatenPairs};
+ghost use Rattle.model.specs.Front.{FrontListsUnbeatenPairs, FrontsWithoutStagesOrQuotes};
 ghost use Rattle.model.specs.Limit.{LimitsGiveBestPairs};
 ghost use Rattle.model.specs.Plan.{LimitsAreSharedOut, PlansGoByTheFirstList, StagesJoinAllCosts};
 ghost use Rattle.model.specs.Question.{QuestionsKeepMemory, RefusedQuestionsAlterNothing};
@@ -35,6 +35,11 @@ pub fn front_lists_unbeaten_pairs<C: Cost>()
 {
     laws_hold::<C>();
 }
+
+// Without stages the front is 0 minutes at the neutral cost; with a standing task that has no quote it is empty.
+pub fn fronts_without_stages_or_quotes<C: Cost>()
+    ensures { FrontsWithoutStagesOrQuotes C.Cost.kind }
+{}
 
 // The choice within an allowance is the cheapest, the lowest machine among equals.
 pub fn cheapest_is_cheapest<C: Cost>()
