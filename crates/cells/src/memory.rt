@@ -16,7 +16,8 @@ pub struct CellRows<'a, C> {
 }
 
 impl<'a, C: Cost> CellRows<'a, C> {
-    // The cost in a cell, none if it was not reached or is past the memory.
+    // The cost in the cell at the place of these minutes in the row of a stage, none if it was not reached or is past the
+    // memory. Minutes past the row's end are those of the next row.
     pub fn cost_at(&self, stage: u32, minutes: u32) -> Option<C>
         ensures { result ≡ cost_in (cell_at C.Cost.kind self.now.layout self.now.cells.now stage minutes) }
     {
