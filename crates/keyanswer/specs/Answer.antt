@@ -15,7 +15,7 @@ use Rattle.model.specs.Cell.{cells_needed}
 use Rattle.model.specs.Front.{front}
 use Rattle.model.specs.Limit.{budget_result, deadline_result}
 use Rattle.model.specs.Plan.{plan}
-use Rattle.keylines.specs.Plan.{machines_of, result_text}
+use Rattle.keylines.specs.Plan.{assigned_tasks, result_text}
 use Rattle.keylines.specs.Point.{point_line}
 use Rattle.keyinput.specs.declared.question.Question.{Question}
 use Rattle.keyinput.specs.declared.question.Question.TheVariants.{Front, Budget, Deadline}
@@ -38,7 +38,7 @@ text_of (Err refused) = line (refusal_words refused)
 
 -- what is written of a limit's answer and the plan's bytes
 abbrev pub limit_text : Book → Answer (Point Cents) → List ℕ → List ℕ
-limit_text book (Ok p) bytes = result_text cents_text p (machines_of book bytes)
+limit_text book (Ok p) bytes = result_text cents_text p (assigned_tasks book bytes)
 limit_text book (Err refused) bytes = line (refusal_words refused)
 
 module _ (T : Meaning Cents) (book : Book) where
@@ -55,7 +55,7 @@ module _ (T : Meaning Cents) (book : Book) where
 
   -- the line of the pair, then a line for each standing task with its machine in the plan
   abbrev pub limit_lines : Answer (Point Cents) → Answer (List ℕ)
-  limit_lines (Ok p) = Ok (result_text cents_text p (machines_of book (plan cents_kind T book p)))
+  limit_lines (Ok p) = Ok (result_text cents_text p (assigned_tasks book (plan cents_kind T book p)))
   limit_lines (Err refused) = Err refused
 
   abbrev pub budget_lines : ℕ → Answer (List ℕ)

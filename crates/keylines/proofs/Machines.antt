@@ -5,7 +5,7 @@ use Rattle.std.proofs.lemmas.List.{at_drop_more, take_more_set}
 use Rattle.sheets.specs.declared.task.Task.{Task}
 use Rattle.keylines.specs.declared.machine.Assigned.{Assigned}
 use Rattle.keylines.specs.Machine.{assigned}
-use Rattle.keylines.specs.Plan.{machines_from}
+use Rattle.keylines.specs.Plan.{assigned_from}
 
 -- a task by its number, and its byte of the plan
 abbrev pub Numbered : Type 0
@@ -18,7 +18,7 @@ abbrev pub machines_in : List Numbered → List Assigned
 machines_in [] = []
 machines_in (n ∷ ns) = cond n.1.0.struck (machines_in ns) (assigned n.0 n.1.1 ∷ machines_in ns)
 
-pub machines_numbered : (number : ℕ) (tasks : List Task) (plan : List ℕ) → machines_in (enumerate_from number (zip tasks plan)) ≡ machines_from number tasks plan
+pub machines_numbered : (number : ℕ) (tasks : List Task) (plan : List ℕ) → machines_in (enumerate_from number (zip tasks plan)) ≡ assigned_from number tasks plan
 machines_numbered number [] plan = refl
 machines_numbered number (task ∷ tasks) [] = refl
 machines_numbered number (task ∷ tasks) (byte ∷ plan) =
@@ -44,7 +44,7 @@ module _ (all : List Numbered) (i : ℕ) (n : Numbered) (h : i < length all) (is
       ∙ ap (λ l. take count list ++ l) (sym (next ∙ ap (λ b. cond b (machines_in (drop (i + 1) all)) (assigned n.0 n.1.1 ∷ machines_in (drop (i + 1) all))) e))
 
 -- bytes behind those of the tasks give no machines
-pub machines_written : (number : ℕ) (tasks : List Task) (plan rest : List ℕ) → length plan ≡ length tasks → machines_from number tasks (plan ++ rest) ≡ machines_from number tasks plan
+pub machines_written : (number : ℕ) (tasks : List Task) (plan rest : List ℕ) → length plan ≡ length tasks → assigned_from number tasks (plan ++ rest) ≡ assigned_from number tasks plan
 machines_written number [] plan rest e = refl
 machines_written number (task ∷ tasks) [] rest e = absurd (omega arith)
 machines_written number (task ∷ tasks) (byte ∷ plan) rest e =

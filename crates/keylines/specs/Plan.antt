@@ -9,14 +9,14 @@ use Rattle.keylines.specs.Machine.{assigned, machine_line}
 use Rattle.keylines.specs.Point.{point_line}
 
 -- the standing tasks, numbered from the first, with the machines that the plan's bytes give them
-abbrev pub machines_from : ℕ → List Task → List ℕ → List Assigned
-machines_from number [] plan = []
-machines_from number (task ∷ tasks) [] = []
-machines_from number (task ∷ tasks) (byte ∷ plan) =
-    cond task.struck (machines_from (number + 1) tasks plan) (assigned number byte ∷ machines_from (number + 1) tasks plan)
+abbrev pub assigned_from : ℕ → List Task → List ℕ → List Assigned
+assigned_from number [] plan = []
+assigned_from number (task ∷ tasks) [] = []
+assigned_from number (task ∷ tasks) (byte ∷ plan) =
+    cond task.struck (assigned_from (number + 1) tasks plan) (assigned number byte ∷ assigned_from (number + 1) tasks plan)
 
-abbrev pub machines_of : Book → List ℕ → List Assigned
-machines_of book plan = machines_from 0 book.tasks plan
+abbrev pub assigned_tasks : Book → List ℕ → List Assigned
+assigned_tasks book plan = assigned_from 0 book.tasks plan
 
 -- the line of the pair, then a line for each standing task
 abbrev pub result_text : {C : Type 0} → (C → List ℕ) → Point C → List Assigned → List ℕ

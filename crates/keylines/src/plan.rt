@@ -2,7 +2,7 @@
 ghost use Rattle.std.specs.Prelude.{◌≡◌, ◌≤◌, length};
 ghost use Rattle.sheets.specs.Book.{book};
 ghost use Rattle.texts.specs.Write.{Writes};
-ghost use Rattle.keylines.specs.Plan.{machines_from, machines_of, result_text};
+ghost use Rattle.keylines.specs.Plan.{assigned_from, assigned_tasks, result_text};
 
 use crate::lines::{lines_room, put_lines};
 use crate::{Assigned, Line};
@@ -14,7 +14,7 @@ use texts::TooShort;
 // Lists the standing tasks, by number, with the machines that a plan gives them.
 fn list_machines<'a>(tasks: &[Task], plan: &[u8], list: &'a mut [Assigned]) -> &'a [Assigned]
     requires { length tasks.now ≤ length list.old }
-    ensures { result.now ≡ machines_from 0 tasks.now plan.now }
+    ensures { result.now ≡ assigned_from 0 tasks.now plan.now }
 {
     let mut count = 0;
     for (number, (task, machine)) in tasks.iter().zip(plan).enumerate() {
@@ -51,7 +51,7 @@ pub fn write_result<C: WrittenCost>(
     plan: &[u8],
     memory: &mut [u8],
 ) -> Result<usize, TooShort>
-    ensures { Writes (result_text C.WrittenCost.text point.now (machines_of (book sheet.now) plan.now)) memory.old memory.new result }
+    ensures { Writes (result_text C.WrittenCost.text point.now (assigned_tasks (book sheet.now) plan.now)) memory.old memory.new result }
 {
     let mut list = [Assigned::default(); MAX_TASKS];
     let machines = list_machines(sheet.tasks(), plan, &mut list);

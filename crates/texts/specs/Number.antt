@@ -14,5 +14,5 @@ value_behind value [] = value
 value_behind value (byte ∷ bytes) = value_behind (value * 10 + (byte - 48)) bytes
 
 -- the number that the text spells in decimal digits, held at the greatest; without a digit, or with another byte, none
-abbrev pub number_in : List ℕ → Option ℕ
-number_in text = cond (nat_lt 0 (length text) && all_digits text) (Some (min (value_behind 0 text) 4294967295)) None
+abbrev pub decimal_in : List ℕ → Option ℕ
+decimal_in text = cond (nat_lt 0 (length text) && all_digits text) (Some (min (value_behind 0 text) 4294967295)) None

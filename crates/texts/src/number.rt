@@ -1,6 +1,6 @@
 // Numbers as decimal text.
 ghost use Rattle.std.specs.Prelude.{◌≡◌, ◌+◌, ◌-◌, ◌*◌, min, decimal};
-ghost use Rattle.texts.specs.Number.{number_in};
+ghost use Rattle.texts.specs.Number.{decimal_in};
 ghost use Rattle.texts.specs.Write.{Writes};
 
 use crate::TooShort;
@@ -28,7 +28,7 @@ fn with_digit(value: u32, byte: u8) -> u32
 // The number that a text spells in plain decimal digits, held at the greatest of its type; none where the text is
 // empty or holds another byte.
 pub fn read_number(text: &[u8]) -> Option<u32>
-    ensures { result ≡ number_in text.now }
+    ensures { result ≡ decimal_in text.now }
 {
     if text.is_empty() || !text.iter().all(u8::is_ascii_digit) {
         return None;
