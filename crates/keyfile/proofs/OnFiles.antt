@@ -239,11 +239,11 @@ task_accepted stages tasks stage work room here range =
     ∙ cond-false (leb stages stage) _ _ (lt-leb stages stage here)
     ∙ cond-false (not (work_in_range work)) _ _ (ap not (and_from _ _ (le-leb 1 work range.0) (le-leb work 1000000 range.1)))
 
-number_then : {B : Type 0} (n place : ℕ) (rest : List ℕ) (next : ℕ → Input → Reading B) → n < 2 ^ 32 → then (number_in (input place (spelled n ++ rest))) next ≡ next n (input (place + length (spelled n)) rest)
+pub number_then : {B : Type 0} (n place : ℕ) (rest : List ℕ) (next : ℕ → Input → Reading B) → n < 2 ^ 32 → then (number_in (input place (spelled n ++ rest))) next ≡ next n (input (place + length (spelled n)) rest)
 number_then n place rest next h = ap (λ (r : Reading ℕ). then r next) (spellings_are_read n place rest h)
 
 -- one place behind two pieces
-along : (place : ℕ) (p q rest : List ℕ) → input (place + length p + length q) rest ≡ input (place + length (p ++ q)) rest
+pub along : (place : ℕ) (p q rest : List ℕ) → input (place + length p + length q) rest ≡ input (place + length (p ++ q)) rest
 along place p q rest = let l = length-append p q in ap (λ n. input n rest) (omega arith)
 
 tasks_written : (stage stages : ℕ) (works : List ℕ) (tasks : List Task) (place : ℕ) (rest : List ℕ) → stage < stages → length tasks + length works ≤ max_tasks → AllByRecursion InRange works → repeated (length works) (task_in stage) (book_of stages tasks) (input place (joined spelled works ++ rest)) ≡ Ok (book_of stages (tasks ++ map (new_task stage) works), input (place + length (joined spelled works)) rest)

@@ -1,3 +1,4 @@
 pub mod OnCards
 pub mod OnLengths
 pub mod OnInputs
+pub mod OnSpelled

@@ -1,12 +1,15 @@
 -- The bytes that spell an input
-use Rattle.std.specs.Prelude.{ℕ, List, ◌++◌, length}
+use Rattle.std.specs.Prelude.{◌≡◌, ℕ, ◌^◌, ◌<◌, List, ◌++◌, length, Ok}
 use Rattle.std.specs.List.{flat_map}
+use Rattle.numbers.specs.Input.{value_of}
 use Rattle.numbers.specs.Number.{spelled}
 use Rattle.tariffs.specs.declared.line.Line.{Line}
+use Rattle.sheets.specs.Book.{Book}
 use Rattle.keyfile.specs.Works.{works_by_stage, spelled_sheet}
+use Rattle.keyinput.specs.declared.input.KeyInput.{KeyInput}
 use Rattle.keyinput.specs.declared.question.Question.{Question}
 use Rattle.keyinput.specs.declared.question.Question.TheVariants.{Front, Budget, Deadline}
-use Rattle.keyinput.specs.Input.{Asked}
+use Rattle.keyinput.specs.Input.{Asked, asked, asked_by, key_in}
 
 abbrev pub spelled_line : Line → List ℕ
 spelled_line line = spelled line.speed ++ spelled line.rate
@@ -27,3 +30,19 @@ spelled_input key = spelled_card key.lines ++ (spelled_sheet (works_by_stage key
 -- the longest input that is accepted
 abbrev pub longest_input : ℕ
 longest_input = 954
+
+-- a limit is a file number
+abbrev pub LimitFits : Question → Type 0
+LimitFits Front = Unit {0}
+LimitFits (Budget limit) = limit < 2 ^ 32
+LimitFits (Deadline limit) = limit < 2 ^ 32
+
+-- the bytes are accepted, and read as the same lines, the same works in the same order in each stage, and the same question
+pub record IsAccepted (key : Asked) : Type 0 where
+  pub read : Book
+  pub same_works : works_by_stage read ≡ works_by_stage key.book
+  pub accepted : value_of (key_in (spelled_input key)) ≡ Ok (asked key.lines read key.question)
+
+-- whatever a card and a sheet hold, what spells them and a question is accepted
+abbrev pub SpelledInputsAreRead : Type 0
+SpelledInputsAreRead = (key : KeyInput) → LimitFits key.question → IsAccepted (asked_by key)

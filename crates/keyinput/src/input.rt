@@ -6,7 +6,7 @@ ghost use Rattle.keyfile.specs.Reading.{viewed};
 ghost use Rattle.keyfile.specs.Refusal.{file_told};
 ghost use Rattle.keyfile.specs.Works.{KnownByItsFile};
 ghost use Rattle.keyinput.specs.Input.{asked_by, key_in};
-ghost use Rattle.keyinput.specs.Spelled.{spelled_input, longest_input};
+ghost use Rattle.keyinput.specs.Spelled.{spelled_input, longest_input, SpelledInputsAreRead};
 
 use crate::batch::take_batch;
 use crate::{Batch, Question, read_question};
@@ -20,11 +20,13 @@ pub struct KeyInput {
 }
 
 // Reads a card, a sheet and a question, with nothing behind them.
+#[tactic(auto, using(crate::proofs::OnSpelled::spelled_inputs_are_read))]
 pub fn read_input(bytes: &[u8]) -> Result<KeyInput, FileRefusal>
     ensures answer { answer_of file_told (viewed asked_by result) ≡ value_of (key_in bytes.now) }
     ensures spelt { IfOk result (λ key. bytes.now ≡ spelled_input (asked_by key)) }
     ensures short { OnOk result (length bytes.now ≤ longest_input) }
     ensures known { IfOk result (λ key. KnownByItsFile key.batch.sheet) }
+    ensures spelled_inputs_read { SpelledInputsAreRead }
 {
     let mut reader = Reader::new(bytes);
     let batch = take_batch(&mut reader)?;

@@ -6,6 +6,7 @@ use Rattle.keyinput.specs.Input.{Asked, asked_by, key_in}
 use Rattle.numbers.proofs.OnSpellings.{byte_string}
 use Rattle.keyinput.proofs.OnInputs.{accepted_is_spelled}
 use Rattle.keyinput.proofs.OnLengths.{input_bytes}
+use Rattle.keyinput.proofs.OnSpelled.{spelled_inputs_are_read}
 use Rattle.keyinput.proofs.input.read_input.Goals as goal
 
 pub returns : goal.returns
@@ -15,4 +16,4 @@ returns c =
     let spelt = accepted_is_spelled c.args.bytes.now (asked_by key) (byte_string c.args.bytes.now (λ i. (c.type_inv.bytes i).fits)) answered in
     let long = ap length spelt in
     let most = input_bytes key in
-    record { answer = answered; spelt = spelt; short = omega arith; known = c.in_ok-batch.ensures.known }
+    record { answer = answered; spelt = spelt; short = omega arith; known = c.in_ok-batch.ensures.known; spelled_inputs_read = spelled_inputs_are_read }
