@@ -1,0 +1,19 @@
+// Lengths with costs.
+
+// A length in minutes, and a cost as a plain number.
+#[derive(Clone, Copy, Drop, PartialEq, Eq, Debug)]
+pub(crate) struct Pair {
+    pub(crate) length: u32,
+    pub(crate) cost: u64,
+}
+
+impl Pair {
+    // Whether it is no longer and no dearer.
+    pub(crate) fn is_within(self, other: Pair) -> bool {
+        self.length <= other.length && self.cost <= other.cost
+    }
+
+    pub(crate) fn beats(self, other: Pair) -> bool {
+        self.is_within(other) && self != other
+    }
+}
