@@ -8,3 +8,4 @@ pub mod PlanBytes
 pub mod SamePoints
 pub mod Compared
 pub mod Verdicts
+pub mod Words

@@ -2,3 +2,4 @@ pub mod Refusal
 pub mod Row
 pub mod Limit
 pub mod Bargain
+pub mod Words

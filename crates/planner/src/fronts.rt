@@ -5,6 +5,7 @@ ghost use Rattle.sheets.specs.Book.{book};
 ghost use Rattle.sheets.specs.History.{KnownFurther};
 ghost use Rattle.model.specs.Question.{front_answer, front_cells, front_points};
 ghost use Rattle.planner.specs.Refusal.{question_told};
+ghost use Rattle.planner.specs.Words.{FrontTells};
 
 use crate::QuestionRefusal;
 use crate::scan::{count_points, write_points};
@@ -23,6 +24,7 @@ pub fn front<T: Tariff>(
     ensures answer { answer_of question_told result ≡ front_answer T.Cost.Cost.kind (T.Tariff.meaning priced.now.tariff.now) (book priced.now.sheet.now) cells.old points.old }
     ensures cells { cells.new ≡ front_cells T.Cost.Cost.kind (T.Tariff.meaning priced.now.tariff.now) (book priced.now.sheet.now) cells.old }
     ensures points { points.new ≡ front_points T.Cost.Cost.kind (T.Tariff.meaning priced.now.tariff.now) (book priced.now.sheet.now) cells.old points.old }
+    ensures words { FrontTells T.Cost.Cost.kind (T.Tariff.meaning priced.now.tariff.now) (book priced.now.sheet.now) points.new result }
     ensures known { KnownFurther priced.now.sheet.now Call.Front priced.now.sheet.now }
 {
     let layout = fill(priced, cells)?;

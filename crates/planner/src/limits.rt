@@ -4,11 +4,13 @@ ghost use Rattle.refusals.specs.Answer.{answer_of};
 ghost use Rattle.sheets.specs.Book.{book};
 ghost use Rattle.sheets.specs.History.{KnownFurther};
 ghost use Rattle.model.specs.Limit.{unquoted, lowest_unquoted};
+ghost use Rattle.model.specs.Plan.{SharedOut};
 ghost use Rattle.model.specs.Question.{limit_answer, limit_cells, limit_bytes, budget_answer, budget_bytes, deadline_answer, deadline_bytes};
 ghost use Rattle.model.specs.Scan.{first_below};
 ghost use Rattle.planner.specs.Limit.{result_of, limit_check, row_within};
 ghost use Rattle.planner.specs.Refusal.{question_told};
 ghost use Rattle.planner.specs.Row.{first_row};
+ghost use Rattle.planner.specs.Words.{BudgetTells, DeadlineTells};
 
 use crate::QuestionRefusal;
 use crate::limit::Limit;
@@ -116,6 +118,8 @@ pub fn budget<T: Tariff>(
     ensures answer { answer_of question_told result ≡ budget_answer T.Cost.Cost.kind (T.Tariff.meaning priced.now.tariff.now) (book priced.now.sheet.now) limit cells.old bytes.old }
     ensures cells { cells.new ≡ limit_cells T.Cost.Cost.kind (T.Tariff.meaning priced.now.tariff.now) (book priced.now.sheet.now) cells.old bytes.old }
     ensures bytes { bytes.new ≡ budget_bytes T.Cost.Cost.kind (T.Tariff.meaning priced.now.tariff.now) (book priced.now.sheet.now) limit cells.old bytes.old }
+    ensures words { BudgetTells T.Cost.Cost.kind (T.Tariff.meaning priced.now.tariff.now) (book priced.now.sheet.now) limit bytes.new result }
+    ensures shared_out { SharedOut T.Cost.Cost.kind (T.Tariff.meaning priced.now.tariff.now) (book priced.now.sheet.now) }
     ensures known { KnownFurther priced.now.sheet.now Call.Budget priced.now.sheet.now }
 {
     answer_limit(priced, Limit::Budget(limit), cells, bytes)
@@ -132,6 +136,8 @@ pub fn deadline<T: Tariff>(
     ensures answer { answer_of question_told result ≡ deadline_answer T.Cost.Cost.kind (T.Tariff.meaning priced.now.tariff.now) (book priced.now.sheet.now) limit cells.old bytes.old }
     ensures cells { cells.new ≡ limit_cells T.Cost.Cost.kind (T.Tariff.meaning priced.now.tariff.now) (book priced.now.sheet.now) cells.old bytes.old }
     ensures bytes { bytes.new ≡ deadline_bytes T.Cost.Cost.kind (T.Tariff.meaning priced.now.tariff.now) (book priced.now.sheet.now) limit cells.old bytes.old }
+    ensures words { DeadlineTells T.Cost.Cost.kind (T.Tariff.meaning priced.now.tariff.now) (book priced.now.sheet.now) limit bytes.new result }
+    ensures shared_out { SharedOut T.Cost.Cost.kind (T.Tariff.meaning priced.now.tariff.now) (book priced.now.sheet.now) }
     ensures known { KnownFurther priced.now.sheet.now Call.Deadline priced.now.sheet.now }
 {
     answer_limit(priced, Limit::Deadline(limit), cells, bytes)

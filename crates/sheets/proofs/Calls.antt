@@ -1,11 +1,12 @@
 -- Calls that make a sound book: its stages, and then each task, struck at once if it is struck
-use Rattle.std.proofs.Common.{◌≡◌, ℕ, zero, suc, ◌+◌, ◌<◌, ◌≤◌, Bool, true, false, not, cond, List, [], ◌∷◌, ◌++◌, length, Ok, sym, refl, ap, ◌∙◌, append_assoc, arith}
+use Rattle.std.proofs.Common.{◌≡◌, ℕ, zero, suc, ◌+◌, ◌<◌, ◌≤◌, Bool, true, false, not, cond, List, [], ◌∷◌, ◌++◌, length, Ok, sym, refl, ap, ◌∙◌, subst, append_assoc, arith}
 use Rattle.std.specs.List.{AllByRecursion}
 use Rattle.std.proofs.lemmas.List.{append-nil, length_push}
 use Rattle.std.proofs.lemmas.Bool.{lt-leb, le-leb}
 use Rattle.refusals.specs.Answer.{Answer, refused_if}
 use Rattle.sheets.specs.declared.call.Call.{Call}
 use Rattle.sheets.specs.declared.call.Call.TheVariants.{Stage, Task as NewTask, Strike}
+use Rattle.sheets.specs.declared.sheet.Sheet.{Sheet}
 use Rattle.sheets.specs.declared.task.Task.{Task}
 use Rattle.work.specs.Work.{max_work, work_in_range}
 use Rattle.sheets.specs.Tasks.{max_stages, max_tasks, stands, task_of, new_task, struck_out, SoundTask}
@@ -98,3 +99,7 @@ known_calls b sound = (
 
 pub every_sheet_has_known_some_calls : EverySheetHasKnownSomeCalls
 every_sheet_has_known_some_calls sheet = known_calls (book sheet) (sheet_sound sheet)
+
+-- what holds of every history holds of every sheet
+pub of_every_sheet : (P : Book → Type 0) → ((calls : List Call) → P (book_after calls)) → (sheet : Sheet) → P (book sheet)
+of_every_sheet P all sheet = let known = known_calls (book sheet) (sheet_sound sheet) in subst P (sym known.1) (all known.0)

@@ -8,6 +8,7 @@ use Rattle.model.specs.Front.{front}
 use Rattle.model.specs.Question.{few_cells}
 use Rattle.cells.proofs.Laws.{laws_of}
 use Rattle.planner.proofs.FirstRow.{enough_from_filled, row_is_front, front_refused_8, points_kept_8, front_answered, points_written}
+use Rattle.planner.proofs.Words.{front_tells}
 use Rattle.planner.proofs.fronts.front.Goals as goal
 
 pub returns-in_err-layout-clause-known : goal.returns-in_err-layout-clause-known
@@ -28,6 +29,7 @@ returns-then-points-count g c =
       answer = sym (front_refused_8 K T b cells points done.0 short);
       cells = c.in_ok-layout.ensures.after;
       points = sym (points_kept_8 K T b cells points done.0 short);
+      words = tt;
       known = known_further _ Front _ refl;
     }
 
@@ -42,9 +44,11 @@ returns g c =
     let read = row_is_front (laws_of g.met.T.Cost.Cost) T (g.T.Tariff.ranged c.args.priced.now.tariff.now) b cells c.fill.new.cells c.in_ok-layout.layout done.0 c.in_ok-layout.ensures.after done.1 in
     let counted : c.count_points-count.result ≡ length (front K T b) = c.count_points-count.ensures ∙ ap length read in
     let fits : length (front K T b) ≤ length points = omega (arith, counted, c.if-points-count.false) in
+    let written = c.write_points.ensures ∙ ap (λ (ps : List (Point g.row.T-Cost.Denot)). ps ++ drop (length ps) points) read in
     record {
       answer = ap Ok counted ∙ sym (front_answered K T b cells points done.0 fits);
       cells = c.in_ok-layout.ensures.after;
-      points = c.write_points.ensures ∙ ap (λ (ps : List (Point g.row.T-Cost.Denot)). ps ++ drop (length ps) points) read ∙ sym (points_written K T b cells points done.0 fits);
+      points = written ∙ sym (points_written K T b cells points done.0 fits);
+      words = front_tells (laws_of g.met.T.Cost.Cost) T (g.T.Tariff.ranged c.args.priced.now.tariff.now) b c.count_points-count.result points c.write_points.new.points counted written;
       known = known_further _ Front _ refl;
     }

@@ -1,12 +1,21 @@
 use Rattle.std.proofs.Common.{refl}
 use Rattle.sheets.specs.declared.call.Call.TheVariants.{Budget}
 use Rattle.sheets.proofs.Histories.{known_further}
+use Rattle.cells.proofs.Laws.{laws_of}
+use Rattle.planner.proofs.Words.{budget_tells, limits_shared_out}
 use Rattle.planner.proofs.limits.budget.Goals as goal
 
 pub returns : goal.returns
-returns g c = record {
-  answer = c.answer_limit.ensures.answer;
-  cells = c.answer_limit.ensures.cells;
-  bytes = c.answer_limit.ensures.bytes;
-  known = known_further _ Budget _ refl;
-}
+returns g c =
+    let T = g.T.Tariff.meaning c.args.priced.now.tariff.now in
+    let F = g.T.Tariff.ranged c.args.priced.now.tariff.now in
+    let laws = laws_of g.met.T.Cost.Cost in
+    let told = c.answer_limit.ensures in
+    record {
+      answer = told.answer;
+      cells = told.cells;
+      bytes = told.bytes;
+      words = budget_tells laws T F c.args.priced.now.sheet.now c.args.cells.now c.args.bytes.now c.answer_limit.new.bytes c.args.limit c.answer_limit.result told.answer told.bytes;
+      shared_out = limits_shared_out laws T F c.args.priced.now.sheet.now;
+      known = known_further _ Budget _ refl;
+    }

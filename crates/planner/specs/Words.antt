@@ -1,0 +1,38 @@
+-- What the questions answer, in words
+use Rattle.std.specs.Prelude.{◌≡◌, ℕ, ◌<◌, ◌≤◌, false, List, length, take, Ok, Err, Result}
+use Rattle.costs.specs.Kind.{Kind}
+use Rattle.tariffs.specs.Meaning.{Meaning}
+use Rattle.sheets.specs.Book.{Book}
+use Rattle.model.specs.declared.point.Point.{Point}
+use Rattle.model.specs.Assignment.{standing, HasPair}
+use Rattle.model.specs.Front.{IsFront}
+use Rattle.model.specs.Limit.{IsBudget, IsDeadline, IsLowestUnquoted}
+use Rattle.model.specs.Plan.{IsPlan}
+use Rattle.planner.specs.declared.refusal.QuestionRefusal.{QuestionRefusal}
+use Rattle.planner.specs.declared.refusal.QuestionRefusal.TheVariants.{TooFewCells, TooShort, Unquoted, NoneWithin}
+
+module _ {C : Type 0} (K : Kind C) (T : Meaning C) (book : Book) where
+  -- as many points as are answered are the front, by rising length
+  abbrev pub FrontTells : List (Point C) → Result ℕ QuestionRefusal → Type 0
+  FrontTells points (Ok count) = (count ≤ length points) × IsFront K T (standing book) (take count points)
+  FrontTells points (Err refusal) = Unit {0}
+
+  -- the bytes, one for each task number, are the plan of a length and cost
+  abbrev pub HasPlan : Point C → List ℕ → Type 0
+  HasPlan p bytes = (length book.tasks ≤ length bytes) × IsPlan K T book p (take (length book.tasks) bytes)
+
+  -- the best pair under a budget, with its plan; the lowest standing task without a quote; or that no pair costs so little
+  abbrev pub BudgetTells : C → List ℕ → Result (Point C) QuestionRefusal → Type 0
+  BudgetTells limit bytes (Ok p) = IsBudget K T (standing book) limit p × HasPlan p bytes
+  BudgetTells limit bytes (Err TooFewCells) = Unit {0}
+  BudgetTells limit bytes (Err TooShort) = Unit {0}
+  BudgetTells limit bytes (Err (Unquoted task)) = IsLowestUnquoted T book task
+  BudgetTells limit bytes (Err NoneWithin) = (p : Point C) → HasPair K T (standing book) p → K.at_most p.cost limit ≡ false
+
+  -- the same under a deadline; or that no pair is so short
+  abbrev pub DeadlineTells : ℕ → List ℕ → Result (Point C) QuestionRefusal → Type 0
+  DeadlineTells limit bytes (Ok p) = IsDeadline K T (standing book) limit p × HasPlan p bytes
+  DeadlineTells limit bytes (Err TooFewCells) = Unit {0}
+  DeadlineTells limit bytes (Err TooShort) = Unit {0}
+  DeadlineTells limit bytes (Err (Unquoted task)) = IsLowestUnquoted T book task
+  DeadlineTells limit bytes (Err NoneWithin) = (p : Point C) → HasPair K T (standing book) p → limit < p.length
