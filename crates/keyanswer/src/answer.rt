@@ -20,7 +20,8 @@ use texts::{TooShort, write_refusal};
 // No longer input is accepted, so that these bytes decide.
 pub const INPUT_BYTES: usize = 1_024;
 
-// Longer than the lines of 4,096 points, the longest text of an answer.
+// Longer than the longest text of an answer, 4,096 lines of points of at most 22 bytes each. This is reckoned, and no
+// contract says it.
 pub const TEXT_BYTES: usize = 98_304;
 
 fn answer_front(

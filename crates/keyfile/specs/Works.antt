@@ -33,6 +33,6 @@ calls_from stage (works ∷ stages) = Stage ∷ (map (NewTask stage) works ++ ca
 abbrev pub file_calls : List (List ℕ) → List Call
 file_calls stages = calls_from 0 stages
 
--- the sheet has known exactly the calls that its file spells
+-- the sheet has known the calls that its file spells
 abbrev pub KnownByItsFile : Sheet → Type 0
 KnownByItsFile sheet = Known sheet (file_calls (works_by_stage (book sheet)))

@@ -44,7 +44,7 @@ fn write_pair_and_machines<C: WrittenCost>(
 }
 
 // Writes the line of a pair and then, for each standing task, the line of its machine in the plan, and returns how many
-// bytes that took.
+// bytes that took. A task whose number is past the plan's end has no line.
 pub fn write_result<C: WrittenCost>(
     point: &Point<C>,
     sheet: &Sheet,
