@@ -64,7 +64,7 @@ pub(crate) fn line_answer(lines: &[Terms], line: Terms) -> Result<usize, Told> {
 }
 
 fn is_bad(row: &Row) -> bool {
-    row.machine >= 32
+    row.machine as usize >= MOST_MACHINES
         || !is_work(row.work)
         || row.minutes == 0
         || row.minutes > MOST_MINUTES
