@@ -5,6 +5,7 @@ ghost use Rattle.tariffs.specs.Card.{lines_of, lines_meaning};
 ghost use Rattle.texts.specs.Write.{Writes};
 ghost use Rattle.planner.specs.Refusal.{question_told};
 ghost use Rattle.keyanswer.specs.Answer.{front_lines, answer_lines, limit_text, text_of, key_text};
+ghost use Rattle.keyanswer.specs.Words.{AnswersTell};
 
 use crate::memory::{CELLS, POINTS, unwritten};
 use crate::priced::priced;
@@ -74,8 +75,10 @@ fn answer_question(
 
 // Writes the text of the answer to an input, and returns how many bytes that took: a line for each point of the front, or
 // the line of the pair and one for each standing task, or the line of a refusal.
+#[tactic(auto, using(crate::proofs::Words::answers_tell))]
 pub fn answer_key(input: &[u8], text: &mut [u8]) -> Result<usize, TooShort>
-    ensures { Writes (key_text input.now) text.old text.new result }
+    ensures text { Writes (key_text input.now) text.old text.new result }
+    ensures words { AnswersTell }
 {
     let deciding = input.len().min(INPUT_BYTES);
     match read_input(&input[..deciding]) {

@@ -42,10 +42,10 @@ module _ {C : Type 0} {K : Kind C} (laws : Laws K) (T : Meaning C) (ranged : Ran
         (front_in_words laws T ranged (standing b) (take count after)).1 (ap (take count) written ∙ take_at (front K T b) _ _ (sym counted)),
       )
 
-  limits_of : (sheet : Sheet) → LimitsInWords K T (book sheet)
+  pub limits_of : (sheet : Sheet) → LimitsInWords K T (book sheet)
   limits_of = of_every_sheet (LimitsInWords K T) (limits_give_best_pairs laws T ranged)
 
-  plans_of : (sheet : Sheet) → Planned K T (book sheet)
+  pub plans_of : (sheet : Sheet) → Planned K T (book sheet)
   plans_of = of_every_sheet (Planned K T) (plans_go_by_the_first_list laws T ranged)
 
   pub limits_shared_out : (sheet : Sheet) → SharedOut K T (book sheet)

@@ -1,8 +1,7 @@
 // Cents as a cost kind: they add up.
 ghost use Rattle.std.specs.Prelude.{◌≡◌};
 ghost use Rattle.costs.specs.Cents.{cents, cents_kind};
-ghost use Rattle.std.proofs.Common.{rules, arith};
-ghost use Rattle.costs.specs.Same.{same_cents};
+ghost use Rattle.costs.specs.KindLaws.{cents_laws};
 
 use crate::{Cents, Cost};
 
@@ -28,19 +27,19 @@ impl Cents {
 impl Cost for Cents {
     ghost kind = { cents_kind };
 
-    ghost total = { Prim.search rules };
+    ghost total = { cents_laws.total };
 
-    ghost antisymmetric = { λ a b p q. same_cents a b (Prim.search rules) };
+    ghost antisymmetric = { cents_laws.antisymmetric };
 
-    ghost transitive = { Prim.search rules };
+    ghost transitive = { cents_laws.transitive };
 
-    ghost associative = { λ a b c. same_cents _ _ (omega arith) };
+    ghost associative = { cents_laws.associative };
 
-    ghost commutative = { λ a b. same_cents _ _ (omega arith) };
+    ghost commutative = { cents_laws.commutative };
 
-    ghost identity = { λ a. same_cents _ _ (omega arith) };
+    ghost identity = { cents_laws.identity };
 
-    ghost monotone = { Prim.search rules };
+    ghost monotone = { cents_laws.monotone };
 
     fn neutral() -> Cents {
         Cents::new(0)

@@ -1,8 +1,7 @@
 // Custody grades as a cost kind: the greater of two counts.
 ghost use Rattle.std.specs.Prelude.{◌≡◌};
 ghost use Rattle.costs.specs.Grade.{grade, grade_kind};
-ghost use Rattle.std.proofs.Common.{rules, arith};
-ghost use Rattle.costs.specs.Same.{same_grade};
+ghost use Rattle.costs.specs.KindLaws.{grade_laws};
 
 use crate::{Cost, Grade};
 
@@ -28,19 +27,19 @@ impl Grade {
 impl Cost for Grade {
     ghost kind = { grade_kind };
 
-    ghost total = { Prim.search rules };
+    ghost total = { grade_laws.total };
 
-    ghost antisymmetric = { λ a b p q. same_grade a b (Prim.search rules) };
+    ghost antisymmetric = { grade_laws.antisymmetric };
 
-    ghost transitive = { Prim.search rules };
+    ghost transitive = { grade_laws.transitive };
 
-    ghost associative = { λ a b c. same_grade _ _ (omega arith) };
+    ghost associative = { grade_laws.associative };
 
-    ghost commutative = { λ a b. same_grade _ _ (omega arith) };
+    ghost commutative = { grade_laws.commutative };
 
-    ghost identity = { λ a. same_grade _ _ (omega arith) };
+    ghost identity = { grade_laws.identity };
 
-    ghost monotone = { Prim.search rules };
+    ghost monotone = { grade_laws.monotone };
 
     fn neutral() -> Grade {
         Grade::new(0)

@@ -5,6 +5,7 @@ use Rattle.texts.specs.Write.{write_answer, write_after}
 use Rattle.keyinput.specs.Input.{Asked, key_in}
 use Rattle.keyanswer.specs.Answer.{answered, text_of, deciding_bytes}
 use Rattle.keyanswer.proofs.Texts.{first_bytes}
+use Rattle.keyanswer.proofs.Words.{answers_tell}
 use Rattle.keyanswer.proofs.answer.answer_key.Goals as goal
 
 pub returns-in-Ok : goal.returns-in-Ok
@@ -14,8 +15,11 @@ returns-in-Ok c =
     ap (λ (a : Answer Asked). text_of (answered a)) c.in-Ok.ensures.answer
     ∙ ap (λ bytes. text_of (answered (value_of (key_in bytes)))) first in
     record {
-      answer = rw (← same) (search rules);
-      after = rw (← same) (search rules);
+      text = record {
+        answer = rw (← same) (search rules);
+        after = rw (← same) (search rules);
+      };
+      words = answers_tell;
     }
 
 pub returns-in-Err : goal.returns-in-Err
@@ -25,6 +29,9 @@ returns-in-Err c =
     ap (λ (a : Answer Asked). text_of (answered a)) c.in-Err.ensures.answer
     ∙ ap (λ bytes. text_of (answered (value_of (key_in bytes)))) first in
     record {
-      answer = c.write_refusal.ensures.answer ∙ ap (λ text. write_answer text c.args.text.now) same;
-      after = c.write_refusal.ensures.after ∙ ap (λ text. write_after text c.args.text.now) same;
+      text = record {
+        answer = c.write_refusal.ensures.answer ∙ ap (λ text. write_answer text c.args.text.now) same;
+        after = c.write_refusal.ensures.after ∙ ap (λ text. write_after text c.args.text.now) same;
+      };
+      words = answers_tell;
     }
