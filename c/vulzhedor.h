@@ -37,7 +37,7 @@ enum {
     VULZHEDOR_NO_QUOTE = 255          /* no refusal: the machine would take more than 1,440 minutes */
 };
 
-/* No text of an answer is longer: it has at most 4,096 lines of at most 22 bytes. This is reckoned and not proved. */
+/* No text of an answer is longer: it has at most 4,096 lines of at most 22 bytes. */
 #define VULZHEDOR_TEXT_BYTES 98304
 
 /* What stands for the value of a refusal that carries none. */

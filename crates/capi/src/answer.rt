@@ -1,7 +1,8 @@
 // The answer to an input, for C.
-ghost use Rattle.std.specs.Prelude.{◌≡◌};
+ghost use Rattle.std.specs.Prelude.{◌≡◌, ◌≤◌, length};
 ghost use Rattle.texts.specs.Write.{write_answer, write_after};
 ghost use Rattle.keyanswer.specs.Answer.{key_text};
+ghost use Rattle.keyanswer.specs.declared.answer.TheConstants.{TEXT_BYTES};
 ghost use Rattle.capi.specs.Status.{status_of, number_after};
 
 use crate::status::DONE;
@@ -14,6 +15,7 @@ pub extern "C" fn vulzhedor_answer(input: &[u8], text: &mut [u8], written: &mut 
     ensures status { result ≡ status_of (write_answer (key_text input.now) text.old) }
     ensures after { text.new ≡ write_after (key_text input.now) text.old }
     ensures count { written.new ≡ number_after (write_answer (key_text input.now) text.old) written.old }
+    ensures fits { TEXT_BYTES ≤ length text.old → result ≡ 0 }
 {
     match answer_key(input, text) {
         Ok(count) => {

@@ -2,10 +2,11 @@
 ghost use Rattle.refusals.specs.Answer.{answer_of};
 ghost use Rattle.sheets.specs.Book.{book};
 ghost use Rattle.tariffs.specs.Card.{lines_of, lines_meaning};
-ghost use Rattle.texts.specs.Write.{Writes};
+ghost use Rattle.texts.specs.Write.{Writes, FitsIn};
 ghost use Rattle.planner.specs.Refusal.{question_told};
 ghost use Rattle.keyanswer.specs.Answer.{front_lines, answer_lines, limit_text, text_of, key_text};
 ghost use Rattle.keyanswer.specs.Words.{AnswersTell};
+ghost use Rattle.keyanswer.specs.declared.answer.TheConstants.{TEXT_BYTES};
 
 use crate::memory::{CELLS, POINTS, unwritten};
 use crate::priced::priced;
@@ -21,8 +22,7 @@ use texts::{TooShort, write_refusal};
 // No longer input is accepted, so that these bytes decide.
 pub const INPUT_BYTES: usize = 1_024;
 
-// Longer than the longest text of an answer, 4,096 lines of points of at most 22 bytes each. This is reckoned, and no
-// contract says it.
+// No text of an answer is longer.
 pub const TEXT_BYTES: usize = 98_304;
 
 fn answer_front(
@@ -59,7 +59,8 @@ fn answer_question(
     question: Question,
     text: &mut [u8],
 ) -> Result<usize, TooShort>
-    ensures { Writes (text_of (answer_lines (lines_meaning (lines_of priced.now.tariff.now)) (book priced.now.sheet.now) question)) text.old text.new result }
+    ensures text { Writes (text_of (answer_lines (lines_meaning (lines_of priced.now.tariff.now)) (book priced.now.sheet.now) question)) text.old text.new result }
+    ensures fits { FitsIn TEXT_BYTES text.old result }
 {
     let mut cells = [Cell::of(None); CELLS];
     let mut plan = [0; MAX_TASKS];
@@ -78,6 +79,7 @@ fn answer_question(
 #[tactic(auto, using(crate::proofs::Words::answers_tell))]
 pub fn answer_key(input: &[u8], text: &mut [u8]) -> Result<usize, TooShort>
     ensures text { Writes (key_text input.now) text.old text.new result }
+    ensures fits { FitsIn TEXT_BYTES text.old result }
     ensures words { AnswersTell }
 {
     let deciding = input.len().min(INPUT_BYTES);

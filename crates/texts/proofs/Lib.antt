@@ -4,3 +4,4 @@ pub mod Rooms
 pub mod OnDigits
 pub mod Lines
 pub mod Numbers
+pub mod Fitting

@@ -1,5 +1,5 @@
 -- A text that is written at the start of lent memory, or refused where it does not fit
-use Rattle.std.specs.Prelude.{◌≡◌, ℕ, Bool, cond, List, ◌++◌, length, drop, Ok, Result, nat_lt}
+use Rattle.std.specs.Prelude.{◌≡◌, ℕ, ◌≤◌, Bool, true, cond, List, ◌++◌, length, drop, is_ok, Ok, Result, nat_lt}
 use Rattle.refusals.specs.Answer.{Answer, answer_of, refused_if}
 use Rattle.texts.specs.TooShort.{too_short_told}
 use Rattle.texts.specs.declared.too_short.TooShort.{TooShort}
@@ -19,3 +19,7 @@ write_after text memory = cond (too_long text memory) memory (text ++ drop (leng
 pub record Writes (text was left : List ℕ) (result : Result ℕ TooShort) : Type 0 where
   pub answer : answer_of too_short_told result ≡ write_answer text was
   pub after : left ≡ write_after text was
+
+-- no memory of so many bytes is too short
+abbrev pub FitsIn : ℕ → List ℕ → Result ℕ TooShort → Type 0
+FitsIn most was result = most ≤ length was → is_ok result ≡ true

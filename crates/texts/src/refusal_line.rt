@@ -1,7 +1,7 @@
 // The line that tells of a refusal.
 ghost use Rattle.texts.specs.Line.{line};
 ghost use Rattle.texts.specs.RefusalLine.{refusal_words};
-ghost use Rattle.texts.specs.Write.{Writes};
+ghost use Rattle.texts.specs.Write.{Writes, FitsIn};
 
 use crate::{TooShort, Word, write_line};
 use refusals::Refusal;
@@ -9,7 +9,8 @@ use refusals::Refusal;
 // Writes `refused`, the refusal's number and the value that it carries, if any, as a line at the start of the
 // memory, and returns how many bytes that took.
 pub fn write_refusal<R: Refusal>(refusal: &R, memory: &mut [u8]) -> Result<usize, TooShort>
-    ensures { Writes (line (refusal_words (R.told refusal.now))) memory.old memory.new result }
+    ensures text { Writes (line (refusal_words (R.told refusal.now))) memory.old memory.new result }
+    ensures fits { FitsIn 33 memory.old result }
 {
     let number = Word::Number(u64::from(refusal.number()));
     match refusal.carried() {

@@ -1,4 +1,4 @@
-use Rattle.std.proofs.Common.{ap, ◌∙◌, rules}
+use Rattle.std.proofs.Common.{ap, ◌∙◌, arith, rules}
 use Rattle.refusals.specs.Answer.{Answer}
 use Rattle.numbers.specs.Input.{value_of}
 use Rattle.texts.specs.Write.{write_answer, write_after}
@@ -19,6 +19,7 @@ returns-in-Ok c =
         answer = rw (← same) (search rules);
         after = rw (← same) (search rules);
       };
+      fits = c.answer_question.ensures.fits;
       words = answers_tell;
     }
 
@@ -30,8 +31,9 @@ returns-in-Err c =
     ∙ ap (λ bytes. text_of (answered (value_of (key_in bytes)))) first in
     record {
       text = record {
-        answer = c.write_refusal.ensures.answer ∙ ap (λ text. write_answer text c.args.text.now) same;
-        after = c.write_refusal.ensures.after ∙ ap (λ text. write_after text c.args.text.now) same;
+        answer = c.write_refusal.ensures.text.answer ∙ ap (λ text. write_answer text c.args.text.now) same;
+        after = c.write_refusal.ensures.text.after ∙ ap (λ text. write_after text c.args.text.now) same;
       };
+      fits = λ room. c.write_refusal.ensures.fits (omega arith);
       words = answers_tell;
     }

@@ -12,6 +12,9 @@ use Rattle.model.specs.Question.{budget_answer, budget_bytes}
 use Rattle.planner.specs.declared.refusal.QuestionRefusal.{QuestionRefusal}
 use Rattle.planner.specs.Refusal.{question_told}
 use Rattle.keyanswer.specs.Answer.{answer_lines, limit_text, text_of}
+use Rattle.texts.proofs.Fitting.{fits_in}
+use Rattle.keyinput.specs.declared.question.Question.TheVariants.{Front}
+use Rattle.keyanswer.proofs.Lengths.{answer_length}
 use Rattle.keyanswer.proofs.Texts.{limit_written, few_tasks}
 use Rattle.keyanswer.proofs.answer.answer_question.Goals as goal
 use Rattle.keyanswer.proofs.answer.answer_question.Goals.{in-Budget, in-Deadline}
@@ -43,7 +46,13 @@ returns c =
           enough room
           ∙ ap (λ question. text_of (answer_lines T asked question)) (sym w.in-Deadline.is)
     ] in
+    let answer = c.write_limit.ensures.answer ∙ ap (λ text. write_answer text c.args.text.now) same in
     record {
-      answer = c.write_limit.ensures.answer ∙ ap (λ text. write_answer text c.args.text.now) same;
-      after = c.write_limit.ensures.after ∙ ap (λ text. write_after text c.args.text.now) same;
+      text = record { answer = answer; after = c.write_limit.ensures.after ∙ ap (λ text. write_after text c.args.text.now) same };
+      fits = fits_in 98304 (text_of (answer_lines T asked c.args.question)) c.args.text.now c.write_limit.result answer (answer_length c.args.priced.now.tariff.now c.args.priced.now.sheet.now c.args.question);
     }
+
+pub returns-in-Front-clause-fits : goal.returns-in-Front-clause-fits
+returns-in-Front-clause-fits c =
+    let T = lines_meaning (lines_of c.args.priced.now.tariff.now) in
+    fits_in 98304 (text_of (answer_lines T (book c.args.priced.now.sheet.now) Front)) c.args.text.now c.answer_front.result c.answer_front.ensures.answer (answer_length c.args.priced.now.tariff.now c.args.priced.now.sheet.now Front)
