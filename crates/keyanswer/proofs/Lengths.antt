@@ -1,15 +1,14 @@
 -- How long the text of an answer is
-use Rattle.std.proofs.Common.{◌≡◌, ℕ, zero, suc, ◌+◌, ◌*◌, ◌^◌, ◌<◌, ◌≤◌, Bool, true, false, cond, ltb, leb, List, [], ◌∷◌, ◌++◌, map, length, slice_index, decimal, Some, None, Ok, Option, sym, refl, ap, ◌∙◌, subst, inl, inr, arith, length-append}
+use Rattle.std.proofs.Common.{◌≡◌, ℕ, suc, ◌+◌, ◌*◌, ◌^◌, ◌<◌, ◌≤◌, Bool, true, false, cond, ltb, List, [], ◌∷◌, ◌++◌, map, length, slice_index, decimal, Some, None, Ok, Option, sym, refl, ap, ◌∙◌, subst, arith, length-append}
 use Rattle.std.specs.List.{flat_map}
-use Rattle.std.proofs.lemmas.Bool.{cases_lt, ltb-false}
+use Rattle.std.proofs.lemmas.Bool.{ltb-false}
 use Rattle.std.proofs.lemmas.Fmt.{length-decimal-le}
-use Rattle.std.proofs.lemmas.Option.{none-some, slice_get_past}
+use Rattle.std.proofs.lemmas.Option.{slice_get_within}
 use Rattle.refusals.specs.Answer.{refused_if}
 use Rattle.costs.specs.Cents.{cents, cents_kind, cents_text}
 use Rattle.costs.specs.KindLaws.{cents_laws}
 use Rattle.costs.specs.declared.cents.Cents.{Cents}
 use Rattle.tariffs.specs.declared.card.RateCard.{RateCard}
-use Rattle.tariffs.specs.declared.quote.Quote.{Quote}
 use Rattle.tariffs.specs.Card.{lines_of, lines_meaning}
 use Rattle.tariffs.specs.Meaning.{Meaning, Ranged}
 use Rattle.tariffs.specs.Ranges.{card_ranged}
@@ -20,13 +19,14 @@ use Rattle.texts.proofs.Fitting.{bare_length, carrying_length}
 use Rattle.model.specs.declared.choice.Choice.{Choice}
 use Rattle.model.specs.declared.point.Point.{Point}
 use Rattle.model.specs.Lists.{In}
-use Rattle.model.specs.Allowance.{cheaper_choice, choice_within, cheapest_below, cheapest}
-use Rattle.model.specs.Assignment.{standing, quote_of, pairs, HasPair}
+use Rattle.model.specs.Allowance.{cheapest}
+use Rattle.model.specs.Assignment.{standing, pairs, HasPair}
 use Rattle.model.specs.Cell.{span, width, cells_needed}
 use Rattle.model.specs.Front.{front}
 use Rattle.model.specs.Limit.{lowest_unquoted, or_none_within, unless_unquoted, within_budget, within_deadline}
 use Rattle.model.specs.Plan.{machine_or, allowances_for, byte_under, plan}
-use Rattle.model.proofs.Assignments.{of_pairs}
+use Rattle.model.proofs.Allowances.{some_cheapest}
+use Rattle.model.proofs.Assignments.{below_count, of_pairs}
 use Rattle.model.proofs.Fronts.{of_front}
 use Rattle.model.proofs.Spans.{length_span}
 use Rattle.model.proofs.Unquoted.{lowest_is}
@@ -78,46 +78,20 @@ assigned_length byte small number (task ∷ tasks) few = by task.struck (assigne
         omega arith
 
 module _ (T : Meaning Cents) where
-  -- a choice, if there is one, is of a machine below n
-  abbrev Below : ℕ → Option (Choice Cents) → Type 0
-  Below n None = Unit {0}
-  Below n (Some choice) = choice.machine < n
-
-  below_more : (n : ℕ) (choice : Option (Choice Cents)) → Below n choice → Below (suc n) choice
-  below_more n None h = tt
-  below_more n (Some choice) h = omega arith
-
-  within_below : (allowance machine : ℕ) (quote : Option (Quote Cents)) → Below (suc machine) (choice_within allowance machine quote)
-  within_below allowance machine None = tt
-  within_below allowance machine (Some q) = by (leb q.minutes allowance)
-    where
-      by : (short : Bool) → Below (suc machine) (cond short (Some (record { machine = machine; cost = q.cost })) None)
-      by true = omega arith
-      by false = tt
-
-  cheaper_below : (n : ℕ) (first second : Option (Choice Cents)) → Below n first → Below n second → Below n (cheaper_choice cents_kind first second)
-  cheaper_below n None second f s = s
-  cheaper_below n (Some x) None f s = f
-  cheaper_below n (Some x) (Some y) f s = by (cents_kind.at_most x.cost y.cost)
-    where
-      by : (first : Bool) → Below n (cond first (Some x) (Some y))
-      by true = f
-      by false = s
-
-  choice_below : (task : Task) (allowance n : ℕ) → Below n (cheapest_below cents_kind T task allowance n)
-  choice_below task allowance zero = tt
-  choice_below task allowance (suc n) =
-      cheaper_below (suc n) (cheapest_below cents_kind T task allowance n) (choice_within allowance n (quote_of T task n))
-      (below_more n (cheapest_below cents_kind T task allowance n) (choice_below task allowance n))
-      (within_below allowance n (quote_of T task n))
-
   byte_small : Ranged T → (allowances : List ℕ) (task : Task) → byte_under cents_kind T allowances task < 1000
-  byte_small ranged allowances task = by task.struck (cheapest cents_kind T task (slice_index allowances task.stage)) (choice_below task (slice_index allowances task.stage) T.count)
+  byte_small ranged allowances task = by task.struck (cheapest cents_kind T task allowance) refl
     where
-      by : (struck : Bool) (choice : Option (Choice Cents)) → Below T.count choice → cond struck 255 (machine_or 255 choice) < 1000
-      by true choice h = omega arith
-      by false None h = omega arith
-      by false (Some choice) h = let few = ranged.few in omega arith
+      allowance : ℕ
+      allowance = slice_index allowances task.stage
+
+      by : (struck : Bool) (choice : Option (Choice Cents)) → cheapest cents_kind T task allowance ≡ choice → cond struck 255 (machine_or 255 choice) < 1000
+      by true choice e = omega arith
+      by false None e = omega arith
+      by false (Some choice) e =
+          let chosen = some_cheapest cents_laws T ranged task allowance choice e in
+          let listed = below_count T ranged task choice.machine chosen.quote chosen.quoted in
+          let few = ranged.few in
+          omega arith
 
   module _ (ranged : Ranged T) (sheet : Sheet) where
     abbrev b : Book
@@ -152,7 +126,8 @@ module _ (T : Meaning Cents) where
     lowest_known task e =
         let lowest = (lowest_is T ranged b task).1 e in
         let known = few_tasks sheet in
-        elim (cases_lt task (length b.tasks)) [ inl within ↦ omega arith | inr past ↦ absurd (none-some lowest.0.0 (sym (slice_get_past b.tasks task past) ∙ lowest.0.1)) ]
+        let within = slice_get_within b.tasks task lowest.0.0 lowest.0.1 in
+        omega arith
 
     limit_length : (few : Bool) → ltb key_cells (cells_needed T b) ≡ few → (lowest : Option ℕ) (found : Option (Point Cents)) → ((task : ℕ) → lowest ≡ Some task → task < 2 ^ 64) → ((p : Point Cents) → found ≡ Some p → lowest ≡ None → HasPair cents_kind T (standing b) p)
         → length (text_of (refused_if few 7 (limit_lines T b (unless_unquoted lowest (or_none_within found))))) ≤ 98304
