@@ -1,9 +1,9 @@
 -- What is written is read again, and what is read was so written
-use Rattle.std.proofs.Common.{◌≡◌, ℕ, zero, suc, ◌+◌, ◌^◌, ◌<◌, ◌≤◌, Bool, true, false, not, ltb, leb, List, [], ◌∷◌, ◌++◌, map, length, Ok, Err, Option, sym, refl, ap, ◌∙◌, subst, append_assoc, add-zero, arith, length-append}
+use Rattle.std.proofs.Common.{◌≡◌, ℕ, zero, suc, ◌+◌, ◌^◌, ◌<◌, ◌≤◌, Bool, true, false, ltb, List, [], ◌∷◌, ◌++◌, map, length, Ok, Err, Option, sym, refl, ap, ◌∙◌, subst, append_assoc, add-zero, arith, length-append}
 use Rattle.std.specs.List.{range_with_len, flat_map as joined, AllByRecursion}
 use Rattle.std.proofs.lemmas.List.FromFn.{length-map-range_with_len}
 use Rattle.std.proofs.lemmas.List.{append-nil, length-map, nil_from_length}
-use Rattle.std.proofs.lemmas.Bool.{cond-false, lt-leb, le-leb, ltb-false, and_from}
+use Rattle.std.proofs.lemmas.Bool.{ltb-false}
 use Rattle.refusals.specs.Answer.{Answer}
 use Rattle.numbers.specs.Input.{Input, input, Reading, then, value_of, refused_at}
 use Rattle.numbers.specs.Number.{spelled, number_in}
@@ -16,8 +16,8 @@ use Rattle.sheets.specs.declared.call.Call.{Call}
 use Rattle.sheets.specs.declared.call.Call.TheVariants.{Stage, Task as NewTask}
 use Rattle.sheets.specs.declared.task.Task.{Task}
 use Rattle.sheets.proofs.Books.{step_accepted}
+use Rattle.sheets.proofs.Calls.{stage_accepted, task_accepted}
 use Rattle.sheets.proofs.Histories.{after_append, sheet_sound}
-use Rattle.work.specs.Work.{work_in_range}
 use Rattle.keyfile.specs.Reading.{called, repeated, ended}
 use Rattle.keyfile.specs.Sheet.{task_in, stage_in, sheet_in, file_in}
 use Rattle.keyfile.specs.Works.{stage_works, works_by_stage, spelled_stage, spelled_sheet, calls_from, file_calls}
@@ -229,15 +229,9 @@ each_sheet_has_one_file bytes others read also_read strung also_strung e f works
     ∙ sym (accepted_files_are_as_written others also_read also_strung f)
 
 -- a call that is accepted between readings
-obeys : (book : Book) (call : Call) (place : ℕ) (left : Input) → checked book call ≡ accepted → called (answer book call) (step book call) place left ≡ Ok (obeyed book call, left)
+obeys : (book : Book) (call : Call) (place : ℕ) (left : Input) → accepted ≡ checked book call → called (answer book call) (step book call) place left ≡ Ok (obeyed book call, left)
 obeys book call place left e =
-    ap (λ (outcome : Answer (Unit {0})). called (elim outcome as (λ _. Answer (Option ℕ)) [ Ok _ ↦ Ok (number book call) | Err refused ↦ Err refused ]) (elim outcome as (λ _. Book) [ Ok _ ↦ obeyed book call | Err refused ↦ book ]) place left) e
-
-task_accepted : (stages : ℕ) (tasks : List Task) (stage work : ℕ) → length tasks < max_tasks → stage < stages → InRange work → checked (book_of stages tasks) (NewTask stage work) ≡ accepted
-task_accepted stages tasks stage work room here range =
-    cond-false (leb max_tasks (length tasks)) _ _ (lt-leb max_tasks (length tasks) room)
-    ∙ cond-false (leb stages stage) _ _ (lt-leb stages stage here)
-    ∙ cond-false (not (work_in_range work)) _ _ (ap not (and_from _ _ (le-leb 1 work range.0) (le-leb work 1000000 range.1)))
+    ap (λ (outcome : Answer (Unit {0})). called (elim outcome as (λ _. Answer (Option ℕ)) [ Ok _ ↦ Ok (number book call) | Err refused ↦ Err refused ]) (elim outcome as (λ _. Book) [ Ok _ ↦ obeyed book call | Err refused ↦ book ]) place left) (sym e)
 
 pub number_then : {B : Type 0} (n place : ℕ) (rest : List ℕ) (next : ℕ → Input → Reading B) → n < 2 ^ 32 → then (number_in (input place (spelled n ++ rest))) next ≡ next n (input (place + length (spelled n)) rest)
 number_then n place rest next h = ap (λ (r : Reading ℕ). then r next) (spellings_are_read n place rest h)
@@ -258,7 +252,7 @@ tasks_written stage stages (work ∷ works) tasks place rest here room range =
     let read : task_in stage (book_of stages tasks) (input place ((spelled work ++ joined spelled works) ++ rest)) ≡ Ok (book_of stages added, behind) =
     ap (λ l. then (number_in (input place l)) calling) (append_assoc (spelled work) (joined spelled works) rest)
     ∙ number_then work place (joined spelled works ++ rest) calling (let r = range.0 in omega arith)
-    ∙ obeys (book_of stages tasks) (NewTask stage work) place behind (task_accepted stages tasks stage work (omega arith) here range.0) in
+    ∙ obeys (book_of stages tasks) (NewTask stage work) place behind (task_accepted (book_of stages tasks) stage work (omega arith) (here, range.0.0, range.0.1)) in
     ap (λ (r : Reading Book). then r again) read
     ∙ tasks_written stage stages works added (place + length (spelled work)) rest here (omega arith) range.1
     ∙ ap (λ (ts : List Task). Ok (book_of stages ts, input (place + length (spelled work) + length (joined spelled works)) rest)) (append_assoc tasks (new_task stage work ∷ []) (map (new_task stage) works))
@@ -280,7 +274,7 @@ stages_written (works ∷ stages) count tasks place rest few room range =
     let read : stage_in book (input place (joined spelled_stage (works ∷ stages) ++ rest)) ≡ Ok (book_of (count + 1) added, behind) =
     ap (λ l. then (number_in (input place l)) filling) (append_assoc (spelled_stage works) (joined spelled_stage stages) rest ∙ append_assoc (spelled (length works)) (joined spelled works) later)
     ∙ number_then (length works) place (joined spelled works ++ later) filling (omega arith)
-    ∙ ap (λ (r : Reading Book). then r (repeated (length works) (task_in count))) (obeys book Stage place (input after_count (joined spelled works ++ later)) (cond-false (leb max_stages count) _ _ (lt-leb max_stages count (omega arith))))
+    ∙ ap (λ (r : Reading Book). then r (repeated (length works) (task_in count))) (obeys book Stage place (input after_count (joined spelled works ++ later)) (stage_accepted book (omega arith)))
     ∙ tasks_written count (count + 1) works tasks after_count later (omega arith) (omega arith) range.0
     ∙ ap (λ (i : Input). Ok (book_of (count + 1) added, i)) (along place (spelled (length works)) (joined spelled works) later) in
     ap (λ (r : Reading Book). then r again) read

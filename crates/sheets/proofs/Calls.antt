@@ -10,7 +10,7 @@ use Rattle.sheets.specs.declared.sheet.Sheet.{Sheet}
 use Rattle.sheets.specs.declared.task.Task.{Task}
 use Rattle.work.specs.Work.{max_work, work_in_range}
 use Rattle.sheets.specs.Tasks.{max_stages, max_tasks, stands, task_of, new_task, struck_out, SoundTask}
-use Rattle.sheets.specs.Book.{Book, accepted, book, book_of, changed, opened, step}
+use Rattle.sheets.specs.Book.{Book, accepted, book, book_of, changed, checked, opened, step}
 use Rattle.sheets.specs.History.{after, book_after, Sound, EverySheetHasKnownSomeCalls}
 use Rattle.sheets.proofs.Books.{step_accepted}
 use Rattle.sheets.proofs.Histories.{after_append, found_push, sheet_sound}
@@ -18,6 +18,20 @@ use Rattle.sheets.proofs.Histories.{after_append, found_push, sheet_sound}
 passes : {A : Type 0} (applies : Bool) (number : ℕ) (rest : Answer A) (outcome : A) → applies ≡ false → Ok outcome ≡ rest → Ok outcome ≡ refused_if applies number rest
 passes true number rest outcome h e = cc
 passes false number rest outcome h e = e
+
+in_range : (work : ℕ) → 1 ≤ work → work ≤ max_work → not (work_in_range work) ≡ false
+in_range work low high = rw (le-leb _ _ low, le-leb _ _ high) refl
+
+-- a stage is accepted where there is room for it
+pub stage_accepted : (book : Book) → book.stages < max_stages → accepted ≡ checked book Stage
+stage_accepted book room = passes _ 1 accepted tt (lt-leb max_stages book.stages room) refl
+
+-- a task is accepted where there is room for it, its stage exists and its work is in range
+pub task_accepted : (book : Book) (stage work : ℕ) → length book.tasks < max_tasks → SoundTask book.stages (new_task stage work) → accepted ≡ checked book (NewTask stage work)
+task_accepted book stage work room sound =
+    passes _ 1 _ tt (lt-leb max_tasks (length book.tasks) room)
+    (passes _ 2 _ tt (lt-leb book.stages stage sound.0)
+    (passes _ 3 accepted tt (in_range work sound.1 sound.2) refl))
 
 -- stages
 calls_of_stages : ℕ → List Call
@@ -30,7 +44,7 @@ after_stages zero few = refl
 after_stages (suc n) few =
     after_append opened (calls_of_stages n) (Stage ∷ [])
     ∙ ap (λ (b : Book). step b Stage) (after_stages n (omega arith))
-    ∙ step_accepted (book_of n []) Stage (passes _ 1 accepted tt (lt-leb max_stages n (omega arith)) refl)
+    ∙ step_accepted (book_of n []) Stage (stage_accepted (book_of n []) (omega arith))
     ∙ ap (λ (k : ℕ). book_of k []) (omega arith)
 
 -- a task
@@ -40,16 +54,6 @@ changed_last change (other ∷ tasks) task = ap (λ (rest : List Task). other �
 
 calls_of_task : ℕ → Task → List Call
 calls_of_task number task = NewTask task.stage task.work ∷ cond task.struck (Strike number ∷ []) []
-
-in_range : (work : ℕ) → 1 ≤ work → work ≤ max_work → not (work_in_range work) ≡ false
-in_range work low high = rw (le-leb _ _ low, le-leb _ _ high) refl
-
-after_new : (stages : ℕ) (done : List Task) (task : Task) → length done < max_tasks → SoundTask stages task → step (book_of stages done) (NewTask task.stage task.work) ≡ book_of stages (done ++ (new_task task.stage task.work ∷ []))
-after_new stages done task few sound =
-    step_accepted (book_of stages done) (NewTask task.stage task.work)
-    (passes _ 1 _ tt (lt-leb max_tasks (length done) few)
-    (passes _ 2 _ tt (lt-leb stages task.stage sound.0)
-    (passes _ 3 accepted tt (in_range task.work sound.1 sound.2) refl)))
 
 after_strike : (stages : ℕ) (done : List Task) (stage work : ℕ) → step (book_of stages (done ++ (new_task stage work ∷ []))) (Strike (length done)) ≡ book_of stages (done ++ (task_of stage work true ∷ []))
 after_strike stages done stage work =
@@ -62,7 +66,7 @@ unfolding calls_of_task
 after_task stages done task few sound = by task.struck refl
   where
     added : step (book_of stages done) (NewTask task.stage task.work) ≡ book_of stages (done ++ (new_task task.stage task.work ∷ []))
-    added = after_new stages done task few sound
+    added = step_accepted (book_of stages done) (NewTask task.stage task.work) (task_accepted (book_of stages done) task.stage task.work few sound)
 
     by : (struck : Bool) → struck ≡ task.struck → after (book_of stages done) (NewTask task.stage task.work ∷ cond struck (Strike (length done) ∷ []) []) ≡ book_of stages (done ++ (task ∷ []))
     by true e =
