@@ -1,5 +1,5 @@
 -- The verdict on two sheets, whatever calls they have known
-use Rattle.std.proofs.Common.{◌≡◌, Bool, true, false, ◌||◌, ◌↔◌, List, Ok, Err, Result, sym, ap, ◌∙◌, ap₂, subst}
+use Rattle.std.proofs.Common.{◌≡◌, Bool, true, false, ◌↔◌, List, Ok, Err, Result, sym, ap, ◌∙◌}
 use Rattle.refusals.specs.Answer.{Answer, answer_of, refused_if}
 use Rattle.costs.specs.Kind.{Kind, Laws}
 use Rattle.tariffs.specs.Meaning.{Meaning, Ranged}
@@ -8,7 +8,7 @@ use Rattle.sheets.specs.declared.sheet.Sheet.{Sheet}
 use Rattle.sheets.specs.Book.{Book, book}
 use Rattle.sheets.specs.History.{book_after}
 use Rattle.sheets.proofs.Histories.{book_sound}
-use Rattle.sheets.proofs.Calls.{every_sheet_has_known_some_calls}
+use Rattle.sheets.proofs.Calls.{of_every_sheet}
 use Rattle.model.specs.declared.cell.Cell.{Cell}
 use Rattle.model.specs.declared.point.Point.{Point}
 use Rattle.model.specs.Front.{front}
@@ -16,7 +16,7 @@ use Rattle.model.specs.Bargain.{Matched}
 use Rattle.model.proofs.Bargains.{enough_memory_is_answered, fronts_by_assignments, equal_fronts_mean_same_bargains}
 use Rattle.planner.specs.declared.refusal.QuestionRefusal.{QuestionRefusal}
 use Rattle.planner.specs.Refusal.{question_told}
-use Rattle.planner.specs.Bargain.{same_points, few_for_both, short_mine, short_yours, bargains_answer, BargainsAgree, Verdict, VerdictHolds}
+use Rattle.planner.specs.Bargain.{same_points, bargains_answer, BargainsAgree, Verdict, VerdictHolds}
 use Rattle.planner.proofs.SamePoints.{same_from_test, test_from_same}
 
 -- an answer that was not refused
@@ -29,7 +29,11 @@ module _ {C : Type 0} {K : Kind C} (laws : Laws K) (T U : Meaning C) (F : Ranged
   pub bargains_agree : BargainsAgree K T U
   bargains_agree calls others mine yours enough plenty = equal_fronts_mean_same_bargains laws T U F G calls others mine yours enough plenty
 
-  verdict : (calls others : List Call) (equal : Bool) → equal ≡ same_points K (front K T (book_after calls)) (front K U (book_after others)) → Verdict K T (book_after calls) U (book_after others) equal
+  -- what the test of two fronts says is a verdict
+  abbrev TestIsVerdict : Bool → Book → Book → Type 0
+  TestIsVerdict equal b o = equal ≡ same_points K (front K T b) (front K U o) → Verdict K T b U o equal
+
+  verdict : (calls others : List Call) (equal : Bool) → TestIsVerdict equal (book_after calls) (book_after others)
   verdict calls others equal e = record {
     by_assignments = (
       (λ h. matched.0 (fronts_equal h)),
@@ -58,10 +62,6 @@ module _ {C : Type 0} {K : Kind C} (laws : Laws K) (T U : Meaning C) (F : Ranged
       → answer_of question_told r ≡ bargains_answer K T (book sheet) U (book other) cells mine yours → VerdictHolds K T sheet U other r
   verdict_holds sheet other cells mine yours (Err refusal) e = tt
   verdict_holds sheet other cells mine yours (Ok equal) e =
-      let mine_known = every_sheet_has_known_some_calls sheet in
-      let yours_known = every_sheet_has_known_some_calls other in
-      subst (λ (b : Book). Verdict K T b U (book other) equal) (sym mine_known.1)
-      (subst (λ (o : Book). Verdict K T (book_after mine_known.0) U o equal) (sym yours_known.1)
-      (verdict mine_known.0 yours_known.0 equal
-      (ok_through (few_for_both K T (book sheet) U (book other) cells mine yours) (short_mine K T (book sheet) U (book other) cells mine yours || short_yours K T (book sheet) U (book other) cells mine yours) (same_points K (front K T (book sheet)) (front K U (book other))) equal e
-      ∙ ap₂ (λ (b o : Book). same_points K (front K T b) (front K U o)) mine_known.1 yours_known.1)))
+      of_every_sheet (λ b. TestIsVerdict equal b (book other))
+      (λ calls. of_every_sheet (TestIsVerdict equal (book_after calls)) (λ others. verdict calls others equal) other)
+      sheet (ok_through _ _ _ equal e)
