@@ -25,7 +25,7 @@ module _ (T : Meaning Cents) (book : Book) where
   abbrev pub HasLines : Point Cents → List ℕ → Type 0
   HasLines p lines = (bytes : List ℕ) × IsPlan cents_kind T book p bytes × (lines ≡ result_text cents_text p (assigned_tasks book bytes))
 
-  -- refused with 9, this is the lowest standing task that no machine quotes; refused with 10, no pair is within the limit
+  -- refused with 9, this is the lowest standing task that no machine quotes; refused with 10, every pair is too much
   pub record RefusalTells (TooMuch : Point Cents → Type 0) (refused : Refused) : Type 0 where
     pub unquoted : (task : ℕ) → refused ≡ carrying 9 task → IsLowestUnquoted T book task
     pub none_within : refused ≡ plain 10 → (p : Point Cents) → HasPair cents_kind T (standing book) p → TooMuch p
@@ -35,20 +35,15 @@ module _ (T : Meaning Cents) (book : Book) where
   FrontLines (Ok lines) = (ps : List (Point Cents)) × IsFront cents_kind T (standing book) ps × (lines ≡ flat_map (point_line cents_text) ps)
   FrontLines (Err refused) = Unit {0}
 
-  -- the lines of a budget are those of the best pair under it, and of its plan
-  abbrev pub BudgetLines : ℕ → Answer (List ℕ) → Type 0
-  BudgetLines limit (Ok lines) = (p : Point Cents) × IsBudget cents_kind T (standing book) (cents limit) p × HasLines p lines
-  BudgetLines limit (Err refused) = RefusalTells (λ p. cents_kind.at_most p.cost (cents limit) ≡ false) refused
-
-  -- the same of a deadline
-  abbrev pub DeadlineLines : ℕ → Answer (List ℕ) → Type 0
-  DeadlineLines limit (Ok lines) = (p : Point Cents) × IsDeadline cents_kind T (standing book) limit p × HasLines p lines
-  DeadlineLines limit (Err refused) = RefusalTells (λ p. limit < p.length) refused
+  -- the lines of a limit are those of the best pair within it, and of its plan
+  abbrev pub LimitLines : (IsBest TooMuch : Point Cents → Type 0) → Answer (List ℕ) → Type 0
+  LimitLines IsBest TooMuch (Ok lines) = (p : Point Cents) × IsBest p × HasLines p lines
+  LimitLines IsBest TooMuch (Err refused) = RefusalTells TooMuch refused
 
   abbrev pub LinesTell : Question → Answer (List ℕ) → Type 0
-  LinesTell Front answer = FrontLines answer
-  LinesTell (Budget limit) answer = BudgetLines limit answer
-  LinesTell (Deadline limit) answer = DeadlineLines limit answer
+  LinesTell Front = FrontLines
+  LinesTell (Budget limit) = LimitLines (IsBudget cents_kind T (standing book) (cents limit)) (λ p. cents_kind.at_most p.cost (cents limit) ≡ false)
+  LinesTell (Deadline limit) = LimitLines (IsDeadline cents_kind T (standing book) limit) (λ p. limit < p.length)
 
 -- for every card, every sheet and every question
 abbrev pub AnswersTell : Type 0

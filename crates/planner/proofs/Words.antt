@@ -6,32 +6,34 @@ use Rattle.costs.specs.Kind.{Kind, Laws}
 use Rattle.tariffs.specs.Meaning.{Meaning, Ranged}
 use Rattle.sheets.specs.declared.sheet.Sheet.{Sheet}
 use Rattle.sheets.specs.Book.{Book, book}
+use Rattle.sheets.proofs.Books.{passed}
 use Rattle.sheets.proofs.Calls.{of_every_sheet}
 use Rattle.model.specs.declared.cell.Cell.{Cell}
 use Rattle.model.specs.declared.point.Point.{Point}
-use Rattle.model.specs.Assignment.{standing}
+use Rattle.model.specs.Assignment.{standing, HasPair}
 use Rattle.model.specs.Front.{front, IsFront}
-use Rattle.model.specs.Limit.{budget_result, deadline_result, LimitsInWords}
+use Rattle.model.specs.Limit.{budget_result, deadline_result, IsBudget, IsDeadline, IsLowestUnquoted, LimitsInWords}
 use Rattle.model.specs.Plan.{plan, allowances_for, byte_under, IsPlan, Planned, SharedOut}
-use Rattle.model.specs.Question.{few_cells, short_plan, budget_answer, budget_bytes, deadline_answer, deadline_bytes, limit_bytes}
+use Rattle.model.specs.Question.{few_cells, short_plan, limit_answer, limit_bytes}
 use Rattle.model.proofs.FrontsInWords.{front_in_words}
 use Rattle.model.proofs.LimitsInWords.{limits_give_best_pairs}
 use Rattle.model.proofs.Plans.{plans_go_by_the_first_list, limits_are_shared_out}
 use Rattle.planner.specs.declared.refusal.QuestionRefusal.{QuestionRefusal}
 use Rattle.planner.specs.declared.refusal.QuestionRefusal.TheVariants.{TooFewCells, TooShort, Unquoted, NoneWithin}
 use Rattle.planner.specs.Refusal.{question_told}
-use Rattle.planner.specs.Words.{HasPlan, BudgetTells, DeadlineTells}
+use Rattle.planner.specs.Words.{HasPlan, LimitTells, BudgetTells, DeadlineTells}
 
--- an answer behind the refusals 7 and 8
-ok_behind : {A : Type 0} (few short : Bool) (result : Answer A) (a : A) → Ok a ≡ refused_if few 7 (refused_if short 8 result) → result ≡ Ok a
-ok_behind true short result a e = cc
-ok_behind false true result a e = cc
-ok_behind false false result a e = sym e
-
+-- a refusal behind 7 and 8
 refused_behind : {A : Type 0} (few short : Bool) (result : Answer A) (refused : Refused) → 8 < refused.number → Err refused ≡ refused_if few 7 (refused_if short 8 result) → result ≡ Err refused
-refused_behind true short result refused h e = let seven : refused ≡ plain 7 = cc in let n = ap (λ (r : Refused). r.number) seven in absurd (omega arith)
-refused_behind false true result refused h e = let eight : refused ≡ plain 8 = cc in let n = ap (λ (r : Refused). r.number) eight in absurd (omega arith)
+refused_behind true short result refused h e = let n : refused.number ≡ 7 = cc in absurd (omega arith)
+refused_behind false true result refused h e = let n : refused.number ≡ 8 = cc in absurd (omega arith)
 refused_behind false false result refused h e = sym e
+
+-- what the result of a limit says, be it a budget or a deadline
+pub record ResultSays {C : Type 0} (K : Kind C) (T : Meaning C) (b : Book) (IsBest TooMuch : Point C → Type 0) (result : Answer (Point C)) : Type 0 where
+  pub best : (p : Point C) → result ≡ Ok p → IsBest p × IsPlan K T b p (plan K T b p)
+  pub unquoted : (task : ℕ) → result ≡ Err (carrying 9 task) → IsLowestUnquoted T b task
+  pub none_within : result ≡ Err (plain 10) → (p : Point C) → HasPair K T (standing b) p → TooMuch p
 
 module _ {C : Type 0} {K : Kind C} (laws : Laws K) (T : Meaning C) (ranged : Ranged T) where
   pub front_tells : (b : Book) (count : ℕ) (points after : List (Point C)) → count ≡ length (front K T b) → after ≡ front K T b ++ drop (length (front K T b)) points → (count ≤ length after) × IsFront K T (standing b) (take count after)
@@ -61,28 +63,44 @@ module _ {C : Type 0} {K : Kind C} (laws : Laws K) (T : Meaning C) (ranged : Ran
         subst (IsPlan K T b p) (sym (ap (take (length b.tasks)) written ∙ take_at (plan K T b p) _ _ long)) planned,
       )
 
-  module _ (sheet : Sheet) (cells : List (Cell C)) (bytes after : List ℕ) where
+  module _ (sheet : Sheet) where
     abbrev b : Book
     b = book sheet
 
-    pub budget_tells : (limit : C) (r : Result (Point C) QuestionRefusal) → answer_of question_told r ≡ budget_answer K T b limit cells bytes → after ≡ budget_bytes K T b limit cells bytes → BudgetTells K T b limit after r
-    budget_tells limit (Ok p) e w =
-        let found = ok_behind (few_cells T b cells) (short_plan T b bytes) (budget_result K T b limit) p e in (
-          ((limits_of sheet).budgets limit p).1 found,
-          has_plan b p bytes after ((plans_of sheet).budgets limit p found) (w ∙ ap (λ (a : Answer (Point C)). limit_bytes K T b a bytes) (sym e)),
-        )
-    budget_tells limit (Err TooFewCells) e w = tt
-    budget_tells limit (Err TooShort) e w = tt
-    budget_tells limit (Err (Unquoted n)) e w = ((limits_of sheet).budget_unquoted limit n).1 (refused_behind (few_cells T b cells) (short_plan T b bytes) (budget_result K T b limit) (carrying 9 n) (omega arith) e)
-    budget_tells limit (Err NoneWithin) e w = (((limits_of sheet).none_affordable limit).1 (refused_behind (few_cells T b cells) (short_plan T b bytes) (budget_result K T b limit) (plain 10) (omega arith) e)).1
+    pub budget_says : (limit : C) → ResultSays K T b (IsBudget K T (standing b) limit) (λ p. K.at_most p.cost limit ≡ false) (budget_result K T b limit)
+    budget_says limit = record {
+      best = λ p e. (((limits_of sheet).budgets limit p).1 e, (plans_of sheet).budgets limit p e);
+      unquoted = λ task. ((limits_of sheet).budget_unquoted limit task).1;
+      none_within = λ e. (((limits_of sheet).none_affordable limit).1 e).1;
+    }
 
-    pub deadline_tells : (limit : ℕ) (r : Result (Point C) QuestionRefusal) → answer_of question_told r ≡ deadline_answer K T b limit cells bytes → after ≡ deadline_bytes K T b limit cells bytes → DeadlineTells K T b limit after r
-    deadline_tells limit (Ok p) e w =
-        let found = ok_behind (few_cells T b cells) (short_plan T b bytes) (deadline_result K T b limit) p e in (
-          ((limits_of sheet).deadlines limit p).1 found,
-          has_plan b p bytes after ((plans_of sheet).deadlines limit p found) (w ∙ ap (λ (a : Answer (Point C)). limit_bytes K T b a bytes) (sym e)),
-        )
-    deadline_tells limit (Err TooFewCells) e w = tt
-    deadline_tells limit (Err TooShort) e w = tt
-    deadline_tells limit (Err (Unquoted n)) e w = ((limits_of sheet).deadline_unquoted limit n).1 (refused_behind (few_cells T b cells) (short_plan T b bytes) (deadline_result K T b limit) (carrying 9 n) (omega arith) e)
-    deadline_tells limit (Err NoneWithin) e w = (((limits_of sheet).none_in_time limit).1 (refused_behind (few_cells T b cells) (short_plan T b bytes) (deadline_result K T b limit) (plain 10) (omega arith) e)).1
+    pub deadline_says : (limit : ℕ) → ResultSays K T b (IsDeadline K T (standing b) limit) (λ p. limit < p.length) (deadline_result K T b limit)
+    deadline_says limit = record {
+      best = λ p e. (((limits_of sheet).deadlines limit p).1 e, (plans_of sheet).deadlines limit p e);
+      unquoted = λ task. ((limits_of sheet).deadline_unquoted limit task).1;
+      none_within = λ e. (((limits_of sheet).none_in_time limit).1 e).1;
+    }
+
+    module _ (cells : List (Cell C)) (bytes after : List ℕ) where
+      -- the words hold of whatever is answered with this result behind 7 and 8, and of what is then written
+      abbrev Told : (List ℕ → Result (Point C) QuestionRefusal → Type 0) → Answer (Point C) → Type 0
+      Told Words result =
+          (r : Result (Point C) QuestionRefusal)
+          → answer_of question_told r ≡ limit_answer T b cells bytes result
+          → after ≡ limit_bytes K T b (limit_answer T b cells bytes result) bytes
+          → Words after r
+
+      limit_tells : {IsBest TooMuch : Point C → Type 0} {result : Answer (Point C)} → ResultSays K T b IsBest TooMuch result → Told (LimitTells K T b IsBest TooMuch) result
+      limit_tells says (Ok p) e w =
+          let best = says.best p (sym (passed (short_plan T b bytes) 8 _ p (passed (few_cells T b cells) 7 _ p e).1).1) in
+          (best.0, has_plan b p bytes after best.1 (w ∙ ap (λ (a : Answer (Point C)). limit_bytes K T b a bytes) (sym e)))
+      limit_tells says (Err TooFewCells) e w = tt
+      limit_tells says (Err TooShort) e w = tt
+      limit_tells says (Err (Unquoted task)) e w = says.unquoted task (refused_behind _ _ _ (carrying 9 task) (omega arith) e)
+      limit_tells says (Err NoneWithin) e w = says.none_within (refused_behind _ _ _ (plain 10) (omega arith) e)
+
+      pub budget_tells : (limit : C) → Told (BudgetTells K T b limit) (budget_result K T b limit)
+      budget_tells limit = limit_tells (budget_says limit)
+
+      pub deadline_tells : (limit : ℕ) → Told (DeadlineTells K T b limit) (deadline_result K T b limit)
+      deadline_tells limit = limit_tells (deadline_says limit)

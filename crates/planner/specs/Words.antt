@@ -21,18 +21,18 @@ module _ {C : Type 0} (K : Kind C) (T : Meaning C) (book : Book) where
   abbrev pub HasPlan : Point C → List ℕ → Type 0
   HasPlan p bytes = (length book.tasks ≤ length bytes) × IsPlan K T book p (take (length book.tasks) bytes)
 
-  -- the best pair under a budget, with its plan; the lowest standing task without a quote; or that no pair costs so little
-  abbrev pub BudgetTells : C → List ℕ → Result (Point C) QuestionRefusal → Type 0
-  BudgetTells limit bytes (Ok p) = IsBudget K T (standing book) limit p × HasPlan p bytes
-  BudgetTells limit bytes (Err TooFewCells) = Unit {0}
-  BudgetTells limit bytes (Err TooShort) = Unit {0}
-  BudgetTells limit bytes (Err (Unquoted task)) = IsLowestUnquoted T book task
-  BudgetTells limit bytes (Err NoneWithin) = (p : Point C) → HasPair K T (standing book) p → K.at_most p.cost limit ≡ false
+  -- the best pair within a limit, with its plan; the lowest standing task without a quote; or that every pair is too much
+  abbrev pub LimitTells : (IsBest TooMuch : Point C → Type 0) → List ℕ → Result (Point C) QuestionRefusal → Type 0
+  LimitTells IsBest TooMuch bytes (Ok p) = IsBest p × HasPlan p bytes
+  LimitTells IsBest TooMuch bytes (Err TooFewCells) = Unit {0}
+  LimitTells IsBest TooMuch bytes (Err TooShort) = Unit {0}
+  LimitTells IsBest TooMuch bytes (Err (Unquoted task)) = IsLowestUnquoted T book task
+  LimitTells IsBest TooMuch bytes (Err NoneWithin) = (p : Point C) → HasPair K T (standing book) p → TooMuch p
 
-  -- the same under a deadline; or that no pair is so short
+  -- too much is what costs more than the budget
+  abbrev pub BudgetTells : C → List ℕ → Result (Point C) QuestionRefusal → Type 0
+  BudgetTells limit = LimitTells (IsBudget K T (standing book) limit) (λ p. K.at_most p.cost limit ≡ false)
+
+  -- too much is what takes longer than the deadline
   abbrev pub DeadlineTells : ℕ → List ℕ → Result (Point C) QuestionRefusal → Type 0
-  DeadlineTells limit bytes (Ok p) = IsDeadline K T (standing book) limit p × HasPlan p bytes
-  DeadlineTells limit bytes (Err TooFewCells) = Unit {0}
-  DeadlineTells limit bytes (Err TooShort) = Unit {0}
-  DeadlineTells limit bytes (Err (Unquoted task)) = IsLowestUnquoted T book task
-  DeadlineTells limit bytes (Err NoneWithin) = (p : Point C) → HasPair K T (standing book) p → limit < p.length
+  DeadlineTells limit = LimitTells (IsDeadline K T (standing book) limit) (λ p. limit < p.length)
