@@ -1,6 +1,7 @@
 pub mod Laws
 pub mod InWords
 pub mod Places
+pub mod UpTo
 pub mod Rows
 pub mod Lowerings
 pub mod Marks

@@ -4,13 +4,14 @@ use mathlib.Core.Bool.{or_assoc, or-true, or-false}
 use Rattle.std.specs.List.{range_with_len, list_any}
 use Rattle.std.proofs.lemmas.List.{get_or-set_same, get_or-set_other, get_or-replicate, append-nil}
 use Rattle.std.proofs.lemmas.Bool.{cases_eq, eq-eqb, ne_eqb, and_right}
-use Rattle.tariffs.specs.Meaning.{Meaning}
+use Rattle.tariffs.specs.Meaning.{Meaning, Ranged}
 use Rattle.tariffs.specs.declared.quote.Quote.{Quote}
 use Rattle.sheets.specs.declared.task.Task.{Task}
 use Rattle.model.specs.Lists.{any, is_empty}
 use Rattle.sheets.specs.Tasks.{stands_in}
-use Rattle.model.specs.Assignment.{stage_tasks, quote_of}
+use Rattle.model.specs.Assignment.{stage_tasks, quote_of, minutes_of}
 use Rattle.model.specs.Allowance.{takes}
+use Rattle.model.proofs.Assignments.{quote_timed}
 use Rattle.model.proofs.Loops.{stage_tasks_more, any_append}
 
 any_counted : (test : ℕ → Bool) (a n : ℕ) → any test (range_with_len a (suc n)) ≡ (any test (range_with_len a n) || test (a + n))
@@ -37,14 +38,22 @@ module _ {C : Type 0} (T : Meaning C) (task : Task) (before marks : List Bool) (
       ∙ or_assoc (get_or before m false) (any (takes T task m) (range_with_len 0 machine)) (takes T task m machine)
       ∙ ap (λ (x : Bool). get_or before m false || x) (sym (any_below (takes T task m) machine))
 
-  by_quote : (o : Option (Quote C)) → quote_of T task machine ≡ o → takes T task m machine ≡ elim o as (λ _. Bool) [ None ↦ false | Some q ↦ eqb q.minutes m ]
-  by_quote o e = ap (λ (p : Option (Quote C)). elim p as (λ _. Bool) [ None ↦ false | Some q ↦ eqb q.minutes m ]) e
+  takes_by_minutes : (o : Option (Quote C)) → quote_of T task machine ≡ o → 0 < minutes_of o → takes T task m machine ≡ eqb (minutes_of o) m
+  takes_by_minutes None e some = absurd (omega arith)
+  takes_by_minutes (Some q) e some = ap (λ (p : Option (Quote C)). elim p as (λ _. Bool) [ None ↦ false | Some q ↦ eqb q.minutes m ]) e
 
-  pub mark_quoted : (q : Quote C) → quote_of T task machine ≡ Some q → q.minutes < length marks → get_or (set marks q.minutes true) m false ≡ (get_or before m false || any (takes T task m) (range_with_len 0 (machine + 1)))
-  mark_quoted q e l = set_mark marks q.minutes m l ∙ one_more (eqb q.minutes m) (by_quote (Some q) e)
+  takes_none : Ranged T → (o : Option (Quote C)) → quote_of T task machine ≡ o → minutes_of o ≡ 0 → takes T task m machine ≡ false
+  takes_none F None e none = ap (λ (p : Option (Quote C)). elim p as (λ _. Bool) [ None ↦ false | Some q ↦ eqb q.minutes m ]) e
+  takes_none F (Some q) e none = let timed = quote_timed T F task machine q e in absurd (omega (arith, timed.0))
 
-  pub mark_unquoted : quote_of T task machine ≡ None → get_or marks m false ≡ (get_or before m false || any (takes T task m) (range_with_len 0 (machine + 1)))
-  mark_unquoted e = sym (or-false (get_or marks m false)) ∙ one_more false (by_quote None e)
+  pub mark_timed : (minutes : ℕ) → minutes ≡ minutes_of (quote_of T task machine) → 0 < minutes → minutes < length marks
+      → get_or (set marks minutes true) m false ≡ (get_or before m false || any (takes T task m) (range_with_len 0 (machine + 1)))
+  mark_timed minutes e some l =
+      set_mark marks minutes m l
+      ∙ one_more (eqb minutes m) (takes_by_minutes (quote_of T task machine) refl (omega arith) ∙ ap (λ (n : ℕ). eqb n m) (sym e))
+
+  pub mark_untimed : Ranged T → minutes_of (quote_of T task machine) ≡ 0 → get_or marks m false ≡ (get_or before m false || any (takes T task m) (range_with_len 0 (machine + 1)))
+  mark_untimed F e = sym (or-false (get_or marks m false)) ∙ one_more false (takes_none F (quote_of T task machine) refl e)
 
 -- some machine quotes some task so many minutes
 module _ {C : Type 0} (T : Meaning C) where

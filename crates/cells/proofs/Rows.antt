@@ -1,7 +1,7 @@
 -- Rows written cell by cell, and one after another
-use Rattle.std.proofs.Common.{◌≡◌, ℕ, ◌+◌, ◌<◌, ◌≤◌, true, false, cond, not, ltb, List, length, set, Some, None, Option, sym, refl, ap, ◌∙◌, inl, inr, le_trans, arith}
+use Rattle.std.proofs.Common.{◌≡◌, ℕ, ◌+◌, ◌<◌, ◌≤◌, true, false, cond, not, List, length, set, Some, None, Option, sym, refl, ap, ◌∙◌, inl, inr, le_trans, arith}
 use Rattle.std.proofs.lemmas.List.{get_or-set_same, get_or-set_other, drop-set-lt}
-use Rattle.std.proofs.lemmas.Bool.{cases_eq, cases_lt, lt-ltb, le-ltb, cond-true, cond-false}
+use Rattle.std.proofs.lemmas.Bool.{cases_eq}
 use Rattle.costs.specs.Kind.{Kind}
 use Rattle.model.specs.declared.cell.Cell.{Cell}
 use Rattle.model.specs.Allowance.{cheaper}
@@ -10,6 +10,7 @@ use Rattle.cells.specs.declared.layout.Layout.{Layout}
 use Rattle.cells.specs.Layout.{place_in, size}
 use Rattle.cells.specs.Memory.{cell_at, RowWritten, lowered}
 use Rattle.cells.proofs.Places.{place_inside, place_apart}
+use Rattle.cells.proofs.UpTo.{up_to, up_to_before, up_to_from, up_to_other}
 
 -- lowering a cell keeps the cheaper cost
 pub lowered_cheaper : {C : Type 0} (K : Kind C) (o u : Option C) → lowered K (cell_of K o) u ≡ cell_of K (cheaper K o u)
@@ -50,23 +51,7 @@ module _ {C : Type 0} {K : Kind C} {layout : Layout} {stage : ℕ} where
       past = drop-set-lt (size layout) after (place_in layout stage m) cell (place_inside layout stage m known short) ∙ w.past;
     }
 
--- a row written from its start to m
-abbrev pub up_to : {A : Type 0} → ℕ → (ℕ → A) → (ℕ → A) → ℕ → A
-up_to m new old t = cond (ltb t m) (new t) (old t)
-
-module _ {A : Type 0} (new old : ℕ → A) where
-  up_to_before : (m t : ℕ) → t < m → up_to m new old t ≡ new t
-  up_to_before m t l = cond-true (ltb t m) (new t) (old t) (lt-ltb t m l)
-
-  up_to_from : (m t : ℕ) → m ≤ t → up_to m new old t ≡ old t
-  up_to_from m t l = cond-false (ltb t m) (new t) (old t) (le-ltb t m l)
-
-  up_to_other : (m t : ℕ) → (t ≡ m → ⊥) → up_to (m + 1) new old t ≡ up_to m new old t
-  up_to_other m t n = elim (cases_lt t m) [
-    | inl l ↦ up_to_before (m + 1) t (omega arith) ∙ sym (up_to_before m t l)
-    | inr l ↦ elim (cases_eq t m) [ inl e ↦ absurd (n e) | inr k ↦ up_to_from (m + 1) t (omega arith) ∙ sym (up_to_from m t l) ]
-  ]
-
+-- a row written from its start
 module _ {C : Type 0} {K : Kind C} {layout : Layout} {stage : ℕ} {before : List (Cell C)} (new : ℕ → Cell C) where
   module _ {after : List (Cell C)} (m : ℕ) (w : RowWritten K layout stage (up_to m new (cell_at K layout before stage)) before after) where
     -- what is not written yet is as it was

@@ -1,3 +1,4 @@
 pub mod TooFew
 pub mod Layout
 pub mod Memory
+pub mod Minutes

@@ -1,27 +1,34 @@
 // The cheapest quote within an allowance.
 ghost use Rattle.std.specs.Prelude.{◌≡◌, MatchOption};
+ghost use Rattle.sheets.specs.Book.{book};
+ghost use Rattle.model.specs.Assignment.{quote_of};
 ghost use Rattle.model.specs.Allowance.{choice_within, cheaper_choice, cheapest, IsCheapest, NoneWithin};
+ghost use Rattle.cells.specs.Minutes.{task_at};
 
-use crate::quote_of;
+use crate::{TimedSheet, quote_of};
 use costs::Cost;
 use model::Choice;
-use sheets::Task;
-use tariffs::{Quote, Tariff};
+use tariffs::Tariff;
 
-// The machine with what it quotes, if that takes no more than the allowance.
-fn choice_within<C: Cost>(
-    allowance: u32,
+// The machine with what it quotes for the task with a number, if that takes no more than the allowance.
+fn choice_within<T: Tariff>(
+    timed: &TimedSheet<T>,
+    number: usize,
     machine: usize,
-    quote: Option<Quote<C>>,
-) -> Option<Choice<C>>
-    ensures { result ≡ choice_within allowance machine quote }
+    allowance: u32,
+) -> Option<Choice<T::Cost>>
+    ensures { result ≡ choice_within allowance machine (quote_of (T.Tariff.meaning timed.now.priced.tariff.now) (task_at (book timed.now.priced.sheet.now).tasks number) machine) }
 {
-    quote
-        .filter(|quote| quote.minutes <= allowance)
-        .map(|quote| Choice {
-            machine,
-            cost: quote.cost,
-        })
+    let minutes = timed.minutes(number, machine);
+    if minutes == 0 || minutes > allowance {
+        return None;
+    }
+    let task = timed.priced.sheet.tasks().get(number)?;
+    let quote = quote_of(timed.priced.tariff, task, machine)?;
+    Some(Choice {
+        machine,
+        cost: quote.cost,
+    })
 }
 
 // The cheaper of two choices, the first among equals.
@@ -34,15 +41,18 @@ fn cheaper_choice<C: Cost>(first: Option<Choice<C>>, second: Option<Choice<C>>) 
     }
 }
 
-// The cheapest quote of a task within the allowance, on the lowest machine among equals.
-pub fn cheapest<T: Tariff>(tariff: &T, task: &Task, allowance: u32) -> Option<Choice<T::Cost>>
-    ensures value { result ≡ cheapest T.Cost.Cost.kind (T.Tariff.meaning tariff.now) task.now allowance }
-    ensures chosen { MatchOption result (NoneWithin (T.Tariff.meaning tariff.now) task.now allowance) (λ choice. IsCheapest T.Cost.Cost.kind (T.Tariff.meaning tariff.now) task.now allowance choice) }
+// The cheapest quote, within the allowance, of the task with a number, on the lowest machine among equals.
+pub fn cheapest<T: Tariff>(
+    timed: &TimedSheet<T>,
+    number: usize,
+    allowance: u32,
+) -> Option<Choice<T::Cost>>
+    ensures value { result ≡ cheapest T.Cost.Cost.kind (T.Tariff.meaning timed.now.priced.tariff.now) (task_at (book timed.now.priced.sheet.now).tasks number) allowance }
+    ensures chosen { MatchOption result (NoneWithin (T.Tariff.meaning timed.now.priced.tariff.now) (task_at (book timed.now.priced.sheet.now).tasks number) allowance) (λ choice. IsCheapest T.Cost.Cost.kind (T.Tariff.meaning timed.now.priced.tariff.now) (task_at (book timed.now.priced.sheet.now).tasks number) allowance choice) }
 {
     let mut best = None;
-    for machine in 0..tariff.machines() {
-        let quote = quote_of(tariff, task, machine);
-        best = cheaper_choice(best, choice_within(allowance, machine, quote));
+    for machine in 0..timed.priced.tariff.machines() {
+        best = cheaper_choice(best, choice_within(timed, number, machine, allowance));
     }
     best
 }

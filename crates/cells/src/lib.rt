@@ -9,6 +9,7 @@ mod quotes;
 mod refusal;
 mod spans;
 mod stages;
+mod timed;
 mod times;
 
 pub use choices::cheapest;
@@ -19,4 +20,5 @@ pub use quotes::quote_of;
 pub use refusal::TooFewCells;
 pub use spans::span;
 pub use stages::stage_cost;
+pub use timed::{MinutesTable, TimedSheet};
 pub use times::{TIMES, quoted_times};

@@ -4,24 +4,19 @@ ghost use Rattle.sheets.specs.Book.{book};
 ghost use Rattle.model.specs.Assignment.{stage_tasks};
 ghost use Rattle.model.specs.Allowance.{cost_within};
 
-use crate::cheapest;
+use crate::{TimedSheet, cheapest};
 use costs::Cost;
-use model::PricedSheet;
 use tariffs::Tariff;
 
 // What a stage costs under an allowance: the join of its standing tasks' cheapest quotes within it; none if a task has
 // none.
-pub fn stage_cost<T: Tariff>(
-    priced: &PricedSheet<T>,
-    stage: usize,
-    allowance: u32,
-) -> Option<T::Cost>
-    ensures { result ≡ cost_within T.Cost.Cost.kind (T.Tariff.meaning priced.now.tariff.now) (stage_tasks (book priced.now.sheet.now).tasks stage) allowance }
+pub fn stage_cost<T: Tariff>(timed: &TimedSheet<T>, stage: usize, allowance: u32) -> Option<T::Cost>
+    ensures { result ≡ cost_within T.Cost.Cost.kind (T.Tariff.meaning timed.now.priced.tariff.now) (stage_tasks (book timed.now.priced.sheet.now).tasks stage) allowance }
 {
     let mut sum = T::Cost::neutral();
-    for task in priced.sheet.tasks() {
+    for (number, task) in timed.priced.sheet.tasks().iter().enumerate() {
         if task.stands_in(stage) {
-            let choice = cheapest(priced.tariff, task, allowance)?;
+            let choice = cheapest(timed, number, allowance)?;
             sum = sum.join(choice.cost);
         }
     }

@@ -7,6 +7,7 @@ ghost use Rattle.model.specs.Limit.{unquoted, lowest_unquoted};
 ghost use Rattle.model.specs.Plan.{SharedOut};
 ghost use Rattle.model.specs.Question.{limit_answer, limit_cells, limit_bytes, budget_answer, budget_bytes, deadline_answer, deadline_bytes};
 ghost use Rattle.model.specs.Scan.{first_below};
+ghost use Rattle.cells.specs.Minutes.{task_at};
 ghost use Rattle.planner.specs.Limit.{result_of, limit_check, row_within};
 ghost use Rattle.planner.specs.Refusal.{question_told};
 ghost use Rattle.planner.specs.Row.{first_row};
@@ -15,44 +16,45 @@ ghost use Rattle.planner.specs.Words.{BudgetTells, DeadlineTells};
 use crate::QuestionRefusal;
 use crate::limit::Limit;
 use crate::plan::write_plan;
-use cells::{CellRows, cheapest, check_cells, fill};
+use cells::{CellRows, MinutesTable, TimedSheet, cheapest, check_cells, fill};
 use costs::Cost;
 use model::{Cell, Point, PricedSheet};
 use sheets::{Call, Task};
 use tariffs::{MAX_MINUTES, Tariff};
 
-// Whether the task stands and no machine quotes it.
-fn is_unquoted<T: Tariff>(tariff: &T, task: &Task) -> bool
-    ensures { result ≡ unquoted (T.Tariff.meaning tariff.now) task.now }
+// Whether the task with a number stands and no machine quotes it.
+fn is_unquoted<T: Tariff>(timed: &TimedSheet<T>, number: usize, task: &Task) -> bool
+    requires { task.now ≡ task_at (book timed.now.priced.sheet.now).tasks number }
+    ensures { result ≡ unquoted (T.Tariff.meaning timed.now.priced.tariff.now) task.now }
 {
-    !task.struck && cheapest(tariff, task, MAX_MINUTES).is_none()
+    !task.struck && cheapest(timed, number, MAX_MINUTES).is_none()
 }
 
 // The lowest standing task that no machine quotes.
-fn lowest_unquoted<T: Tariff>(priced: &PricedSheet<T>) -> Option<usize>
-    ensures { result ≡ lowest_unquoted (T.Tariff.meaning priced.now.tariff.now) (book priced.now.sheet.now) }
+fn lowest_unquoted<T: Tariff>(timed: &TimedSheet<T>) -> Option<usize>
+    ensures { result ≡ lowest_unquoted (T.Tariff.meaning timed.now.priced.tariff.now) (book timed.now.priced.sheet.now) }
 {
-    let tariff = priced.tariff;
-    priced
-        .sheet
-        .tasks()
-        .iter()
-        .position(|task| is_unquoted(tariff, task))
+    for (number, task) in timed.priced.sheet.tasks().iter().enumerate() {
+        if is_unquoted(timed, number, task) {
+            return Some(number);
+        }
+    }
+    None
 }
 
 // Refuses what is refused before any cell is written.
 fn check<T: Tariff>(
-    priced: &PricedSheet<T>,
+    timed: &TimedSheet<T>,
     cells: &[Cell<T::Cost>],
     bytes: usize,
 ) -> Result<(), QuestionRefusal>
-    ensures { answer_of question_told result ≡ limit_check (T.Tariff.meaning priced.now.tariff.now) (book priced.now.sheet.now) cells.now bytes }
+    ensures { answer_of question_told result ≡ limit_check (T.Tariff.meaning timed.now.priced.tariff.now) (book timed.now.priced.sheet.now) cells.now bytes }
 {
-    check_cells(priced, cells)?;
-    if bytes < priced.sheet.task_count() {
+    check_cells(timed, cells)?;
+    if bytes < timed.priced.sheet.task_count() {
         return Err(QuestionRefusal::TooShort);
     }
-    match lowest_unquoted(priced) {
+    match lowest_unquoted(timed) {
         Some(task) => Err(QuestionRefusal::Unquoted(task)),
         None => Ok(()),
     }
@@ -90,20 +92,20 @@ fn find<C: Cost>(rows: &CellRows<C>, limit: Limit<C>) -> Option<Point<C>>
 }
 
 fn answer_limit<T: Tariff>(
-    priced: &PricedSheet<T>,
+    timed: &TimedSheet<T>,
     limit: Limit<T::Cost>,
     cells: &mut [Cell<T::Cost>],
     bytes: &mut [u8],
 ) -> Result<Point<T::Cost>, QuestionRefusal>
-    ensures answer { answer_of question_told result ≡ limit_answer (T.Tariff.meaning priced.now.tariff.now) (book priced.now.sheet.now) cells.old bytes.old (result_of T.Cost.Cost.kind (T.Tariff.meaning priced.now.tariff.now) (book priced.now.sheet.now) limit) }
-    ensures cells { cells.new ≡ limit_cells T.Cost.Cost.kind (T.Tariff.meaning priced.now.tariff.now) (book priced.now.sheet.now) cells.old bytes.old }
-    ensures bytes { bytes.new ≡ limit_bytes T.Cost.Cost.kind (T.Tariff.meaning priced.now.tariff.now) (book priced.now.sheet.now) (limit_answer (T.Tariff.meaning priced.now.tariff.now) (book priced.now.sheet.now) cells.old bytes.old (result_of T.Cost.Cost.kind (T.Tariff.meaning priced.now.tariff.now) (book priced.now.sheet.now) limit)) bytes.old }
+    ensures answer { answer_of question_told result ≡ limit_answer (T.Tariff.meaning timed.now.priced.tariff.now) (book timed.now.priced.sheet.now) cells.old bytes.old (result_of T.Cost.Cost.kind (T.Tariff.meaning timed.now.priced.tariff.now) (book timed.now.priced.sheet.now) limit) }
+    ensures cells { cells.new ≡ limit_cells T.Cost.Cost.kind (T.Tariff.meaning timed.now.priced.tariff.now) (book timed.now.priced.sheet.now) cells.old bytes.old }
+    ensures bytes { bytes.new ≡ limit_bytes T.Cost.Cost.kind (T.Tariff.meaning timed.now.priced.tariff.now) (book timed.now.priced.sheet.now) (limit_answer (T.Tariff.meaning timed.now.priced.tariff.now) (book timed.now.priced.sheet.now) cells.old bytes.old (result_of T.Cost.Cost.kind (T.Tariff.meaning timed.now.priced.tariff.now) (book timed.now.priced.sheet.now) limit)) bytes.old }
 {
-    check(priced, cells, bytes.len())?;
-    let layout = fill(priced, cells)?;
+    check(timed, cells, bytes.len())?;
+    let layout = fill(timed, cells)?;
     let rows = CellRows { cells, layout };
     let point = find(&rows, limit).ok_or(QuestionRefusal::NoneWithin)?;
-    write_plan(priced, &rows, &point, bytes);
+    write_plan(timed, &rows, &point, bytes);
     Ok(point)
 }
 
@@ -122,7 +124,9 @@ pub fn budget<T: Tariff>(
     ensures shared_out { SharedOut T.Cost.Cost.kind (T.Tariff.meaning priced.now.tariff.now) (book priced.now.sheet.now) }
     ensures known { KnownFurther priced.now.sheet.now Call.Budget priced.now.sheet.now }
 {
-    answer_limit(priced, Limit::Budget(limit), cells, bytes)
+    let mut table = MinutesTable::new();
+    let timed = TimedSheet::of(priced, &mut table);
+    answer_limit(&timed, Limit::Budget(limit), cells, bytes)
 }
 
 // The least cost of an assignment no longer than the limit in minutes, and the least length at that cost; the plan is
@@ -140,5 +144,7 @@ pub fn deadline<T: Tariff>(
     ensures shared_out { SharedOut T.Cost.Cost.kind (T.Tariff.meaning priced.now.tariff.now) (book priced.now.sheet.now) }
     ensures known { KnownFurther priced.now.sheet.now Call.Deadline priced.now.sheet.now }
 {
-    answer_limit(priced, Limit::Deadline(limit), cells, bytes)
+    let mut table = MinutesTable::new();
+    let timed = TimedSheet::of(priced, &mut table);
+    answer_limit(&timed, Limit::Deadline(limit), cells, bytes)
 }

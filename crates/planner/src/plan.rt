@@ -4,11 +4,12 @@ ghost use Rattle.sheets.specs.Book.{book};
 ghost use Rattle.model.specs.Assignment.{stage_tasks};
 ghost use Rattle.model.specs.Allowance.{cheapest, cost_within, cost_until, is_time};
 ghost use Rattle.model.specs.Plan.{struck_byte, machine_or, completes, or_neutral, allowances_for, plan};
+ghost use Rattle.cells.specs.Minutes.{task_at};
 ghost use Rattle.planner.specs.Row.{HoldsLeastCosts};
 
-use cells::{CellRows, TIMES, cheapest, quoted_times, stage_cost};
+use cells::{CellRows, TIMES, TimedSheet, cheapest, quoted_times, stage_cost};
 use costs::Cost;
-use model::{Point, PricedSheet};
+use model::Point;
 use sheets::{MAX_STAGES, Task};
 use tariffs::Tariff;
 
@@ -41,18 +42,18 @@ fn is_marked(times: &[bool; TIMES], minutes: u32) -> bool
 
 // What a stage costs within an allowance, from what it costs within one minute less: that changes only at quoted times.
 fn next_cost<T: Tariff>(
-    priced: &PricedSheet<T>,
+    timed: &TimedSheet<T>,
     stage: usize,
     times: &[bool; TIMES],
     allowance: u32,
     before: Option<T::Cost>,
 ) -> Option<T::Cost>
-    requires marked { (m : ℕ) → m < 1441 → slice_index_or times.now m false ≡ is_time (T.Tariff.meaning priced.now.tariff.now) (stage_tasks (book priced.now.sheet.now).tasks stage) m }
-    requires until { before ≡ cost_until T.Cost.Cost.kind (T.Tariff.meaning priced.now.tariff.now) (stage_tasks (book priced.now.sheet.now).tasks stage) allowance }
-    ensures { result ≡ cost_within T.Cost.Cost.kind (T.Tariff.meaning priced.now.tariff.now) (stage_tasks (book priced.now.sheet.now).tasks stage) allowance }
+    requires marked { (m : ℕ) → m < 1441 → slice_index_or times.now m false ≡ is_time (T.Tariff.meaning timed.now.priced.tariff.now) (stage_tasks (book timed.now.priced.sheet.now).tasks stage) m }
+    requires until { before ≡ cost_until T.Cost.Cost.kind (T.Tariff.meaning timed.now.priced.tariff.now) (stage_tasks (book timed.now.priced.sheet.now).tasks stage) allowance }
+    ensures { result ≡ cost_within T.Cost.Cost.kind (T.Tariff.meaning timed.now.priced.tariff.now) (stage_tasks (book timed.now.priced.sheet.now).tasks stage) allowance }
 {
     if is_marked(times, allowance) {
-        return stage_cost(priced, stage, allowance);
+        return stage_cost(timed, stage, allowance);
     }
     before
 }
@@ -60,23 +61,23 @@ fn next_cost<T: Tariff>(
 // Writes the first allowance list of the point: for each stage the least allowance with which the stages behind it still
 // reach the cost. The last that is tried is all the minutes left.
 fn first_list<T: Tariff>(
-    priced: &PricedSheet<T>,
+    timed: &TimedSheet<T>,
     rows: &CellRows<T::Cost>,
     point: &Point<T::Cost>,
     list: &mut [u32],
 )
-    requires filled { HoldsLeastCosts T.Cost.Cost.kind (T.Tariff.meaning priced.now.tariff.now) (book priced.now.sheet.now) rows.now.cells.now rows.now.layout }
+    requires filled { HoldsLeastCosts T.Cost.Cost.kind (T.Tariff.meaning timed.now.priced.tariff.now) (book timed.now.priced.sheet.now) rows.now.cells.now rows.now.layout }
     requires within { point.now.length < rows.now.layout.width }
-    requires room { (book priced.now.sheet.now).stages ≤ length list.old }
-    ensures { take (book priced.now.sheet.now).stages list.new ≡ allowances_for T.Cost.Cost.kind (T.Tariff.meaning priced.now.tariff.now) (book priced.now.sheet.now) point.now }
+    requires room { (book timed.now.priced.sheet.now).stages ≤ length list.old }
+    ensures { take (book timed.now.priced.sheet.now).stages list.new ≡ allowances_for T.Cost.Cost.kind (T.Tariff.meaning timed.now.priced.tariff.now) (book timed.now.priced.sheet.now) point.now }
 {
     let mut left = point.length;
     let mut spent = T::Cost::neutral();
-    'stages: for stage in 0..priced.sheet.stage_count() {
-        let times = quoted_times(priced, stage);
+    'stages: for stage in 0..timed.priced.sheet.stage_count() {
+        let times = quoted_times(timed, stage);
         let mut cost = None;
         for allowance in 0..=left {
-            cost = next_cost(priced, stage, &times, allowance, cost);
+            cost = next_cost(timed, stage, &times, allowance, cost);
             let rest = rows.cost_at(stage as u32 + 1, left - allowance);
             if completes(spent, cost, rest, point.cost) || allowance == left {
                 list[stage] = allowance;
@@ -89,30 +90,31 @@ fn first_list<T: Tariff>(
 }
 
 // The byte of a task: its cheapest machine within the allowance, or 255 if it is struck.
-fn byte_under<T: Tariff>(tariff: &T, task: &Task, allowance: u32) -> u8
-    ensures { result ≡ (if task.now.struck then struck_byte else machine_or struck_byte (cheapest T.Cost.Cost.kind (T.Tariff.meaning tariff.now) task.now allowance)) }
+fn byte_under<T: Tariff>(timed: &TimedSheet<T>, number: usize, task: &Task, allowance: u32) -> u8
+    requires { task.now ≡ task_at (book timed.now.priced.sheet.now).tasks number }
+    ensures { result ≡ (if task.now.struck then struck_byte else machine_or struck_byte (cheapest T.Cost.Cost.kind (T.Tariff.meaning timed.now.priced.tariff.now) task.now allowance)) }
 {
     if task.struck {
         return STRUCK_BYTE;
     }
-    cheapest(tariff, task, allowance).map_or(STRUCK_BYTE, |choice| choice.machine as u8)
+    cheapest(timed, number, allowance).map_or(STRUCK_BYTE, |choice| choice.machine as u8)
 }
 
 // Writes the plan of the point, a byte for each task number, to memory that has room for it.
 pub(crate) fn write_plan<T: Tariff>(
-    priced: &PricedSheet<T>,
+    timed: &TimedSheet<T>,
     rows: &CellRows<T::Cost>,
     point: &Point<T::Cost>,
     bytes: &mut [u8],
 )
-    requires filled { HoldsLeastCosts T.Cost.Cost.kind (T.Tariff.meaning priced.now.tariff.now) (book priced.now.sheet.now) rows.now.cells.now rows.now.layout }
+    requires filled { HoldsLeastCosts T.Cost.Cost.kind (T.Tariff.meaning timed.now.priced.tariff.now) (book timed.now.priced.sheet.now) rows.now.cells.now rows.now.layout }
     requires within { point.now.length < rows.now.layout.width }
-    requires room { length (book priced.now.sheet.now).tasks ≤ length bytes.old }
-    ensures { bytes.new ≡ plan T.Cost.Cost.kind (T.Tariff.meaning priced.now.tariff.now) (book priced.now.sheet.now) point.now ++ drop (length (book priced.now.sheet.now).tasks) bytes.old }
+    requires room { length (book timed.now.priced.sheet.now).tasks ≤ length bytes.old }
+    ensures { bytes.new ≡ plan T.Cost.Cost.kind (T.Tariff.meaning timed.now.priced.tariff.now) (book timed.now.priced.sheet.now) point.now ++ drop (length (book timed.now.priced.sheet.now).tasks) bytes.old }
 {
     let mut list = [0; MAX_STAGES];
-    first_list(priced, rows, point, &mut list);
-    for (number, task) in priced.sheet.tasks().iter().enumerate() {
-        bytes[number] = byte_under(priced.tariff, task, list[task.stage]);
+    first_list(timed, rows, point, &mut list);
+    for (number, task) in timed.priced.sheet.tasks().iter().enumerate() {
+        bytes[number] = byte_under(timed, number, task, list[task.stage]);
     }
 }

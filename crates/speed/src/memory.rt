@@ -1,5 +1,5 @@
 // The memory that a case needs.
-use cells::span;
+use cells::{MinutesTable, TimedSheet, span};
 use costs::Cost;
 use model::{Cell, Point, PricedSheet};
 use sheets::MAX_TASKS;
@@ -19,7 +19,9 @@ impl<C: Cost> Memory<C> {
         heap: Global,
         priced: &PricedSheet<T>,
     ) -> Result<Memory<C>, AllocError> {
-        let width = span(priced) as usize + 1;
+        let mut table = MinutesTable::new();
+        let timed = TimedSheet::of(priced, &mut table);
+        let width = span(&timed) as usize + 1;
         let size = (priced.sheet.stage_count() + 1) * width;
         let point = Point {
             length: 0,

@@ -1,6 +1,6 @@
 // Sums of what the planner found, by which two planners are compared.
-use cells::quoted_times;
-use model::{Cell, Point, PricedSheet};
+use cells::{TimedSheet, quoted_times};
+use model::{Cell, Point};
 use tariffs::Tariff;
 use trials::Amount;
 
@@ -25,14 +25,14 @@ pub(crate) fn plan_sum(plan: &[u8]) -> u64 {
         .fold(0, |sum, machine| mixed(sum, u64::from(*machine)))
 }
 
-fn times_in_stage<T: Tariff>(priced: &PricedSheet<T>, stage: usize) -> usize {
-    let times = quoted_times(priced, stage);
+fn times_in_stage<T: Tariff>(timed: &TimedSheet<T>, stage: usize) -> usize {
+    let times = quoted_times(timed, stage);
     times.iter().filter(|quoted| **quoted).count()
 }
 
 // How many times are quoted, counted anew in each stage.
-pub(crate) fn times_count<T: Tariff>(priced: &PricedSheet<T>) -> usize {
-    (0..priced.sheet.stage_count()).fold(0usize, |count, stage| {
-        count.saturating_add(times_in_stage(priced, stage))
+pub(crate) fn times_count<T: Tariff>(timed: &TimedSheet<T>) -> usize {
+    (0..timed.priced.sheet.stage_count()).fold(0usize, |count, stage| {
+        count.saturating_add(times_in_stage(timed, stage))
     })
 }

@@ -2,7 +2,7 @@
 use crate::memory::Memory;
 use crate::sums::{cells_sum, plan_sum, points_sum, times_count};
 use anyhow::anyhow;
-use cells::{fill, span};
+use cells::{MinutesTable, TimedSheet, fill, span};
 use model::{Point, PricedSheet};
 use planner::{budget, deadline, front};
 use sheets::Sheet;
@@ -52,10 +52,14 @@ impl<C: Amount, T: Tariff<Cost = C>> Case<'_, C, T> {
     fn time_fill(&mut self) -> anyhow::Result<()> {
         let rt = self.timer.rt;
         self.timer.time("fill", || {
-            fill(&self.priced, &mut self.memory.cells).map_err(|_| anyhow!("too few cells"))
+            let mut table = MinutesTable::new();
+            let timed = TimedSheet::of(&self.priced, &mut table);
+            fill(&timed, &mut self.memory.cells).map_err(|_| anyhow!("too few cells"))
         })?;
-        let times = times_count(&self.priced);
-        let span = span(&self.priced);
+        let mut table = MinutesTable::new();
+        let timed = TimedSheet::of(&self.priced, &mut table);
+        let times = times_count(&timed);
+        let span = span(&timed);
         println!(rt; "times {times}, span {span}")?;
         let sum = cells_sum(&self.memory.cells);
         println!(rt; "cells {sum}")?;

@@ -3,19 +3,18 @@ ghost use Rattle.std.specs.Prelude.{◌≡◌, ◌<◌, ◌≤◌};
 ghost use Rattle.sheets.specs.Book.{book};
 ghost use Rattle.cells.specs.Layout.{layout_of, place_in, size};
 
-use crate::{Layout, span};
+use crate::{Layout, TimedSheet, span};
 use costs::Cost;
-use model::PricedSheet;
 use tariffs::Tariff;
 
 impl Layout {
     // The layout of the cells for a sheet under a tariff.
-    pub(crate) fn of<T: Tariff>(priced: &PricedSheet<T>) -> Layout
-        ensures { result ≡ layout_of (T.Tariff.meaning priced.now.tariff.now) (book priced.now.sheet.now) }
+    pub(crate) fn of<T: Tariff>(timed: &TimedSheet<T>) -> Layout
+        ensures { result ≡ layout_of (T.Tariff.meaning timed.now.priced.tariff.now) (book timed.now.priced.sheet.now) }
     {
         Layout {
-            stages: priced.sheet.stage_count() as u32,
-            width: span(priced) + 1,
+            stages: timed.priced.sheet.stage_count() as u32,
+            width: span(timed) + 1,
         }
     }
 

@@ -13,8 +13,8 @@ use Rattle.cells.proofs.filling.fill_stage.Goals.{then-quoted+in-Some, else-quot
 pub loop-allowance-preserved : goal.loop-allowance-preserved
 loop-allowance-preserved g c =
     let K = g.T.Cost.Cost.kind in
-    let T = g.T.Tariff.meaning c.args.priced.now.tariff.now in
-    let tasks = stage_tasks (book c.args.priced.now.sheet.now).tasks c.args.stage in
+    let T = g.T.Tariff.meaning c.args.timed.now.priced.tariff.now in
+    let tasks = stage_tasks (book c.args.timed.now.priced.sheet.now).tasks c.args.stage in
     let rest = row_costs K c.args.layout c.write_row.new.cells (c.args.stage + 1) in
     let a = c.loop-allowance.allowance in
     let within : a < 1441 = omega (arith, c.min-end.ensures, length-take c.min-end.result c.quoted_times-times.result) in
@@ -35,8 +35,8 @@ loop-allowance-preserved g c =
 pub returns : goal.returns
 returns g c =
     let K = g.T.Cost.Cost.kind in
-    let T = g.T.Tariff.meaning c.args.priced.now.tariff.now in
-    let tasks = stage_tasks (book c.args.priced.now.sheet.now).tasks c.args.stage in
+    let T = g.T.Tariff.meaning c.args.timed.now.priced.tariff.now in
+    let tasks = stage_tasks (book c.args.timed.now.priced.sheet.now).tasks c.args.stage in
     let rest = row_costs K c.args.layout c.write_row.new.cells (c.args.stage + 1) in
     let before = row_costs K c.args.layout c.args.cells.now (c.args.stage + 1) in
     let end = c.loop-allowance.allowance in

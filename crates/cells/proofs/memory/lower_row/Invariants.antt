@@ -1,5 +1,5 @@
 use Rattle.cells.specs.Memory.{cell_at, RowWritten, lowered_row}
-use Rattle.cells.proofs.Rows.{up_to}
+use Rattle.cells.proofs.UpTo.{up_to}
 use Rattle.cells.proofs.memory.lower_row.Given as goal
 
 abbrev pub invariant-loop-minutes : goal.invariant-loop-minutes

@@ -1,19 +1,24 @@
-use Rattle.std.proofs.Common.{◌<◌, Bool, true, false, List, length, get_or, sym, ap, ◌∙◌, arith}
+use Rattle.std.proofs.Common.{◌<◌, suc, Bool, true, false, List, length, get_or, ap, ◌∙◌, arith}
 use Rattle.std.proofs.lemmas.List.{length-set}
-use Rattle.model.proofs.Assignments.{quote_timed}
-use Rattle.cells.proofs.Marks.{mark_quoted, mark_unquoted}
+use Rattle.sheets.specs.Book.{book}
+use Rattle.model.proofs.Loops.{greatest_time_below_bound}
+use Rattle.cells.specs.Minutes.{task_at}
+use Rattle.cells.proofs.Marks.{mark_timed, mark_untimed}
 use Rattle.cells.proofs.times.mark.Goals as goal
-use Rattle.cells.proofs.times.mark.Goals.{in-Some, in_default}
+use Rattle.cells.proofs.times.mark.Goals.{then-minutes-gt0, else-minutes-gt0}
 
 pub loop-machine-preserved : goal.loop-machine-preserved
 loop-machine-preserved g c m l =
-    let T = g.T.Tariff.meaning c.args.tariff.now in
-    elim c.match-quote_of.branch [
-      | in-Some w ↦
-          let quoted = sym c.quote_of.ensures ∙ w.in-Some.is in
-          let short : w.in-Some.quote.minutes < length c.loop-machine.times =
-          omega (arith, (quote_timed T (g.T.Tariff.ranged c.args.tariff.now) c.args.task.now c.loop-machine.machine w.in-Some.quote quoted).1, ap length w.times-is, length-set c.loop-machine.times w.in-Some.quote.minutes true, c.match-quote_of.array_long) in
-          ap (λ (marks : List Bool). get_or marks m false) w.times-is ∙ mark_quoted T c.args.task.now c.args.times.now c.loop-machine.times c.loop-machine.machine m (c.loop-machine.invariant m l) w.in-Some.quote quoted short
-      | in_default w ↦
-          ap (λ (marks : List Bool). get_or marks m false) w.times-is ∙ mark_unquoted T c.args.task.now c.args.times.now c.loop-machine.times c.loop-machine.machine m (c.loop-machine.invariant m l) (sym c.quote_of.ensures ∙ w.in_default.is)
+    let T = g.T.Tariff.meaning c.args.timed.now.priced.tariff.now in
+    let F = g.T.Tariff.ranged c.args.timed.now.priced.tariff.now in
+    let task = task_at (book c.args.timed.now.priced.sheet.now).tasks c.args.number in
+    let machine = c.loop-machine.machine in
+    let minutes = c.minutes-minutes.result in
+    elim c.if-minutes-gt0.branch [
+      | then-minutes-gt0 w ↦
+          let inside : minutes < length c.loop-machine.times =
+          omega (arith, greatest_time_below_bound T F task (suc machine), c.minutes-minutes.ensures, ap length w.times-is, length-set c.loop-machine.times minutes true, c.if-minutes-gt0.array_long) in
+          ap (λ (marks : List Bool). get_or marks m false) w.times-is ∙ mark_timed T task c.args.times.now c.loop-machine.times machine m (c.loop-machine.invariant m l) minutes c.minutes-minutes.ensures w.if-minutes-gt0.true inside
+      | else-minutes-gt0 w ↦
+          ap (λ (marks : List Bool). get_or marks m false) w.times-is ∙ mark_untimed T task c.args.times.now c.loop-machine.times machine m (c.loop-machine.invariant m l) F (omega (arith, c.minutes-minutes.ensures, w.if-minutes-gt0.false))
     ]

@@ -1,4 +1,4 @@
-use Rattle.std.proofs.Common.{refl}
+use Rattle.std.proofs.Common.{refl, sym}
 use Rattle.sheets.specs.declared.call.Call.TheVariants.{Front}
 use Rattle.sheets.proofs.Histories.{known_further}
 use Rattle.cells.proofs.Laws.{laws_of}
@@ -7,17 +7,17 @@ use Rattle.planner.proofs.bargains.same_bargains.Goals as goal
 
 pub returns : goal.returns
 returns g c =
-    let T = g.T.Tariff.meaning c.args.first.now.tariff.now in
-    let U = g.U.Tariff.meaning c.args.second.now.tariff.now in
-    let F = g.T.Tariff.ranged c.args.first.now.tariff.now in
-    let G = g.U.Tariff.ranged c.args.second.now.tariff.now in
+    let T = g.T.Tariff.meaning c.of-first.result.priced.tariff.now in
+    let U = g.U.Tariff.meaning c.of-second.result.priced.tariff.now in
+    let F = g.T.Tariff.ranged c.of-first.result.priced.tariff.now in
+    let G = g.U.Tariff.ranged c.of-second.result.priced.tariff.now in
     let laws = laws_of g.met.T.Cost.Cost in
-    record {
+    rw (sym c.of-first.ensures, sym c.of-second.ensures) (record {
       answer = c.compare.ensures.answer;
       cells = c.compare.ensures.cells;
       mine = c.compare.ensures.mine;
       yours = c.compare.ensures.yours;
       bargains = bargains_agree laws T U F G;
-      verdict = verdict_holds laws T U F G c.args.first.now.sheet.now c.args.second.now.sheet.now c.args.cells.now c.args.first_points.now c.args.second_points.now c.compare.result c.compare.ensures.answer;
+      verdict = verdict_holds laws T U F G c.of-first.result.priced.sheet.now c.of-second.result.priced.sheet.now c.args.cells.now c.args.first_points.now c.args.second_points.now c.compare.result c.compare.ensures.answer;
       known = (known_further _ Front _ refl, known_further _ Front _ refl);
-    }
+    })

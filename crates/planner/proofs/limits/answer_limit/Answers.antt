@@ -18,8 +18,8 @@ use Rattle.planner.proofs.limits.answer_limit.Goals as goal
 pub write_plan-requires-clause-filled : goal.write_plan-requires-clause-filled
 write_plan-requires-clause-filled g c =
     let K = g.T.Cost.Cost.kind in
-    let T = g.T.Tariff.meaning c.args.priced.now.tariff.now in
-    let b = book c.args.priced.now.sheet.now in
+    let T = g.T.Tariff.meaning c.args.timed.now.priced.tariff.now in
+    let b = book c.args.timed.now.priced.sheet.now in
     let cells = c.args.cells.now in
     let done = enough_from_filled (few_cells T b cells) (layout_of T b) c.in_ok-layout.layout c.in_ok-layout.ensures.answer in
     filled_hold K T b cells c.fill.new.cells c.in_ok-layout.layout done.0 c.in_ok-layout.ensures.after done.1
@@ -27,8 +27,8 @@ write_plan-requires-clause-filled g c =
 pub returns : goal.returns
 returns g c =
     let K = g.T.Cost.Cost.kind in
-    let T = g.T.Tariff.meaning c.args.priced.now.tariff.now in
-    let b = book c.args.priced.now.sheet.now in
+    let T = g.T.Tariff.meaning c.args.timed.now.priced.tariff.now in
+    let b = book c.args.timed.now.priced.sheet.now in
     let cells = c.args.cells.now in
     let bytes = c.args.bytes.now in
     let limit = c.args.limit in
@@ -36,7 +36,7 @@ returns g c =
     let done = enough_from_filled (few_cells T b cells) (layout_of T b) c.in_ok-layout.layout c.in_ok-layout.ensures.answer in
     let held = filled_hold K T b cells c.fill.new.cells c.in_ok-layout.layout done.0 c.in_ok-layout.ensures.after done.1 in
     let found : c.find.result ≡ Some c.in_ok-point.point = search (rules, tests) in
-    let some : within_limit K T (standing b) limit ≡ Some c.in_ok-point.point = sym (row_tells (laws_of g.met.T.Cost.Cost) T (g.T.Tariff.ranged c.args.priced.now.tariff.now) b c.fill.new.cells c.in_ok-layout.layout held limit) ∙ sym c.find.ensures.value ∙ found in
+    let some : within_limit K T (standing b) limit ≡ Some c.in_ok-point.point = sym (row_tells (laws_of g.met.T.Cost.Cost) T (g.T.Tariff.ranged c.args.timed.now.priced.tariff.now) b c.fill.new.cells c.in_ok-layout.layout held limit) ∙ sym c.find.ensures.value ∙ found in
     let answered = limit_let_through K T b cells bytes limit passed.0 passed.1 passed.2 ∙ ap or_none_within some in
     record {
       answer = sym answered;
@@ -47,8 +47,8 @@ returns g c =
 pub returns-in_err-point : goal.returns-in_err-point
 returns-in_err-point g c =
     let K = g.T.Cost.Cost.kind in
-    let T = g.T.Tariff.meaning c.args.priced.now.tariff.now in
-    let b = book c.args.priced.now.sheet.now in
+    let T = g.T.Tariff.meaning c.args.timed.now.priced.tariff.now in
+    let b = book c.args.timed.now.priced.sheet.now in
     let cells = c.args.cells.now in
     let bytes = c.args.bytes.now in
     let limit = c.args.limit in
@@ -57,7 +57,7 @@ returns-in_err-point g c =
     let held = filled_hold K T b cells c.fill.new.cells c.in_ok-layout.layout done.0 c.in_ok-layout.ensures.after done.1 in
     let found : c.find.result ≡ None = search (rules, tests) in
     let refused : c.from_residual-in_err-point.result ≡ Err NoneWithin = search (rules, tests) in
-    let none : within_limit K T (standing b) limit ≡ None = sym (row_tells (laws_of g.met.T.Cost.Cost) T (g.T.Tariff.ranged c.args.priced.now.tariff.now) b c.fill.new.cells c.in_ok-layout.layout held limit) ∙ sym c.find.ensures.value ∙ found in
+    let none : within_limit K T (standing b) limit ≡ None = sym (row_tells (laws_of g.met.T.Cost.Cost) T (g.T.Tariff.ranged c.args.timed.now.priced.tariff.now) b c.fill.new.cells c.in_ok-layout.layout held limit) ∙ sym c.find.ensures.value ∙ found in
     let answered = limit_let_through K T b cells bytes limit passed.0 passed.1 passed.2 ∙ ap or_none_within none in
     record {
       answer = ap (λ (r : Result (Point g.row.T-Cost.Denot) QuestionRefusal). answer_of question_told r) refused ∙ sym answered;

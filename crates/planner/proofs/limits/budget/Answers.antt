@@ -1,4 +1,4 @@
-use Rattle.std.proofs.Common.{refl}
+use Rattle.std.proofs.Common.{refl, sym}
 use Rattle.sheets.specs.declared.call.Call.TheVariants.{Budget}
 use Rattle.sheets.proofs.Histories.{known_further}
 use Rattle.cells.proofs.Laws.{laws_of}
@@ -7,15 +7,15 @@ use Rattle.planner.proofs.limits.budget.Goals as goal
 
 pub returns : goal.returns
 returns g c =
-    let T = g.T.Tariff.meaning c.args.priced.now.tariff.now in
-    let F = g.T.Tariff.ranged c.args.priced.now.tariff.now in
+    let T = g.T.Tariff.meaning c.of-timed.result.priced.tariff.now in
+    let F = g.T.Tariff.ranged c.of-timed.result.priced.tariff.now in
     let laws = laws_of g.met.T.Cost.Cost in
     let told = c.answer_limit.ensures in
-    record {
+    rw (sym c.of-timed.ensures) (record {
       answer = told.answer;
       cells = told.cells;
       bytes = told.bytes;
-      words = budget_tells laws T F c.args.priced.now.sheet.now c.args.cells.now c.args.bytes.now c.answer_limit.new.bytes c.args.limit c.answer_limit.result told.answer told.bytes;
-      shared_out = limits_shared_out laws T F c.args.priced.now.sheet.now;
+      words = budget_tells laws T F c.of-timed.result.priced.sheet.now c.args.cells.now c.args.bytes.now c.answer_limit.new.bytes c.args.limit c.answer_limit.result told.answer told.bytes;
+      shared_out = limits_shared_out laws T F c.of-timed.result.priced.sheet.now;
       known = known_further _ Budget _ refl;
-    }
+    })

@@ -8,11 +8,11 @@ use Rattle.planner.proofs.plan.first_list.Given as goal
 abbrev pub invariant-stages : goal.invariant-stages
 invariant-stages g l =
     (l.left ≤ l.point.length)
-    × ListedBefore g.T.Cost.Cost.kind (g.T.Tariff.meaning l.priced.tariff.now) (book l.priced.sheet.now) l.point l.stage l.left l.spent l.list
+    × ListedBefore g.T.Cost.Cost.kind (g.T.Tariff.meaning l.timed.priced.tariff.now) (book l.timed.priced.sheet.now) l.point l.stage l.left l.spent l.list
 
 abbrev pub invariant-loop-allowance : goal.invariant-loop-allowance
 invariant-loop-allowance g l =
     (l.left ≡ l.initial.left) × (l.allowance ≤ l.left)
-    × ListedBefore g.T.Cost.Cost.kind (g.T.Tariff.meaning l.priced.tariff.now) (book l.priced.sheet.now) l.point l.stage l.left l.spent l.list
-    × NoneBefore g.T.Cost.Cost.kind (g.T.Tariff.meaning l.priced.tariff.now) (book l.priced.sheet.now) l.point l.stage l.left l.spent l.allowance
-    × (l.cost ≡ cost_until g.T.Cost.Cost.kind (g.T.Tariff.meaning l.priced.tariff.now) (stage_tasks (book l.priced.sheet.now).tasks l.stage) l.allowance)
+    × ListedBefore g.T.Cost.Cost.kind (g.T.Tariff.meaning l.timed.priced.tariff.now) (book l.timed.priced.sheet.now) l.point l.stage l.left l.spent l.list
+    × NoneBefore g.T.Cost.Cost.kind (g.T.Tariff.meaning l.timed.priced.tariff.now) (book l.timed.priced.sheet.now) l.point l.stage l.left l.spent l.allowance
+    × (l.cost ≡ cost_until g.T.Cost.Cost.kind (g.T.Tariff.meaning l.timed.priced.tariff.now) (stage_tasks (book l.timed.priced.sheet.now).tasks l.stage) l.allowance)

@@ -8,9 +8,9 @@ use Rattle.planner.proofs.plan.next_cost.Goals as goal
 
 pub returns : goal.returns
 returns g c =
-    let T = g.T.Tariff.meaning c.args.priced.now.tariff.now in
-    let F = g.T.Tariff.ranged c.args.priced.now.tariff.now in
-    let tasks = stage_tasks (book c.args.priced.now.sheet.now).tasks c.args.stage in
+    let T = g.T.Tariff.meaning c.args.timed.now.priced.tariff.now in
+    let F = g.T.Tariff.ranged c.args.timed.now.priced.tariff.now in
+    let tasks = stage_tasks (book c.args.timed.now.priced.sheet.now).tasks c.args.stage in
     let a = c.args.allowance in
     let unmarked = sym c.if-is_marked.ensures in
     let untimed : is_time T tasks a ≡ false =

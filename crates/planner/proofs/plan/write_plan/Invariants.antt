@@ -3,4 +3,4 @@ use Rattle.planner.proofs.PlanBytes.{WrittenBefore}
 use Rattle.planner.proofs.plan.write_plan.Given as goal
 
 abbrev pub invariant-loop-number : goal.invariant-loop-number
-invariant-loop-number g l = WrittenBefore g.T.Cost.Cost.kind (g.T.Tariff.meaning l.priced.tariff.now) (book l.priced.sheet.now) l.point l.initial.bytes l.number l.bytes
+invariant-loop-number g l = WrittenBefore g.T.Cost.Cost.kind (g.T.Tariff.meaning l.timed.priced.tariff.now) (book l.timed.priced.sheet.now) l.point l.initial.bytes l.number l.bytes
