@@ -8,14 +8,16 @@ use Rattle.sheets.specs.Book.{Book}
 use Rattle.sheets.specs.declared.task.Task.{Task}
 use Rattle.model.specs.declared.cell.Cell.{Cell}
 use Rattle.model.specs.Assignment.{stage_tasks, standing}
-use Rattle.model.specs.Allowance.{joined, cheaper, cheapest_of, cost_within, is_time}
+use Rattle.model.specs.Allowance.{joined, cheaper, cheapest_of, cost_within, cost_until, is_time}
 use Rattle.model.specs.Cell.{cell_of, cost_in, cell, least_cost, width}
 use Rattle.model.specs.Question.{filled}
 use Rattle.model.proofs.Loops.{cost_in_cell, cheapest_of_same, last_cell, cell_by_times, greatest_time_bound}
+use Rattle.model.proofs.LeastCosts.{falling}
 use Rattle.model.proofs.Tables.{filled_by_places}
 use Rattle.cells.specs.declared.layout.Layout.{Layout}
 use Rattle.cells.specs.Layout.{layout_of, size}
-use Rattle.cells.specs.Memory.{cell_at, row_costs, lowered, lowered_row, offer_before, stage_row, RowWritten}
+use Rattle.cells.specs.Memory.{cell_at, row_costs, lowered, lowered_row, offer_before, stage_row, RowWritten, Falling, less_than}
+use Rattle.cells.proofs.Drops.{no_less, falling_like}
 use Rattle.cells.proofs.Rows.{lowered_cheaper, written_as, written_then}
 
 cheapest_of_like : {C : Type 0} (K : Kind C) (f g : ℕ → Option C) → ((a : ℕ) → f a ≡ g a) → (n : ℕ) → cheapest_of K f n ≡ cheapest_of K g n
@@ -55,12 +57,9 @@ module _ {C : Type 0} (K : Kind C) (T : Meaning C) (tasks : List Task) where
     pub row_untimed : is_time T tasks a ≡ false → RowWritten K layout stage (stage_row K T tasks rest (a + 1)) before after
     row_untimed e = row_past (λ t. ap (λ (b : Bool). cond b (joined K (cost_within K T tasks a) (rest (t - a))) None) (and_right (leb a t) _ e))
 
-    pub row_costless : cost_within K T tasks a ≡ None → RowWritten K layout stage (stage_row K T tasks rest (a + 1)) before after
-    row_costless e = row_past (λ t. ap (λ (o : Option C). cond (leb a t && is_time T tasks a) (joined K o (rest (t - a))) None) e ∙ either (leb a t && is_time T tasks a))
-      where
-        either : (b : Bool) → ◌≡◌ {A = Option C} (cond b None None) None
-        either true = refl
-        either false = refl
+    -- a time at which it costs no less than before
+    pub row_no_less : Laws K → Ranged T → Falling K layout.width rest → less_than K (cost_until K T tasks a) (cost_within K T tasks a) ≡ None → RowWritten K layout stage (stage_row K T tasks rest (a + 1)) before after
+    row_no_less L F falling e = written_as w (λ t l. ap (cell_of K) (sym (no_less L T F tasks rest layout.width t a falling l e) ∙ ap (cheapest_of K (offer_before K T tasks rest t)) (let n : suc a ≡ a + 1 = omega arith in n)))
 
     -- a time at which it has a cost
     pub row_lowered : {lower : List (Cell C)} (cost : C) → ((u : ℕ) → u < layout.width → row_costs K layout after (stage + 1) u ≡ rest u) → is_time T tasks a ≡ true → cost_within K T tasks a ≡ Some cost
@@ -89,6 +88,13 @@ pub record FilledFrom {C : Type 0} (K : Kind C) (T : Meaning C) (book : Book) (l
   pub past : drop (size layout) after ≡ drop (size layout) before
 
 module _ {C : Type 0} {K : Kind C} (L : Laws K) (T : Meaning C) (F : Ranged T) (book : Book) where
+  -- a row that was filled falls
+  pub filled_falls : {layout : Layout} {before after : List (Cell C)} (j : ℕ) → j ≤ layout.stages → FilledFrom K T book layout j before after → Falling K layout.width (row_costs K layout after j)
+  filled_falls {layout} {before} {after} j known h =
+      falling_like K layout.width (least_cost K T (drop j (standing book))) (row_costs K layout after j)
+      (λ u l. sym (ap (λ (c : Cell C). cost_in c) (h.rows j u (omega arith) known l) ∙ cost_in_cell K (least_cost K T (drop j (standing book)) u)))
+      (λ t u c l m e. falling L T F (drop j (standing book)) t u c e l)
+
   last_row : {before after : List (Cell C)} (cell : Cell C) → cell ≡ cell_of K (Some K.neutral)
       → RowWritten K (layout_of T book) book.stages (λ _. cell) before after → FilledFrom K T book (layout_of T book) book.stages after after
   last_row {before} {after} last e w = record {

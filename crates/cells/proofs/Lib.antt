@@ -5,4 +5,5 @@ pub mod UpTo
 pub mod Rows
 pub mod Lowerings
 pub mod Marks
+pub mod Drops
 pub mod Fillings

@@ -6,7 +6,7 @@ ghost use Rattle.model.specs.Assignment.{stage_tasks};
 ghost use Rattle.model.specs.Question.{few_cells, front_cells};
 ghost use Rattle.cells.specs.TooFew.{too_few_told};
 ghost use Rattle.cells.specs.Layout.{layout_of, size};
-ghost use Rattle.cells.specs.Memory.{RowWritten, row_costs, stage_row};
+ghost use Rattle.cells.specs.Memory.{RowWritten, Falling, less_than, row_costs, stage_row};
 
 use crate::memory::{lower_row, write_row};
 use crate::times::{TIMES, quoted_times};
@@ -30,8 +30,19 @@ pub fn check_cells<T: Tariff>(
     Ok(layout)
 }
 
-// Fills the row of a stage; the row behind it stands already. The stage's cost within a time is reckoned once; times past
-// the row's end offer nothing.
+// A cost, where it is less than the one before it.
+fn less_than<C: Cost>(before: Option<C>, cost: Option<C>) -> Option<C>
+    ensures { result ≡ less_than C.Cost.kind before cost }
+{
+    match (before, cost) {
+        (Some(before), Some(cost)) => (!before.at_most(cost)).then_some(cost),
+        (_, cost) => cost,
+    }
+}
+
+// Fills the row of a stage; the row behind it stands already. The stage's cost within a quoted time is reckoned once. Only
+// where it is less than within the times before does it offer anything, since fewer minutes for the stages behind are never
+// cheaper; nor do times past the row's end.
 fn fill_stage<T: Tariff>(
     timed: &TimedSheet<T>,
     cells: &mut [Cell<T::Cost>],
@@ -40,14 +51,20 @@ fn fill_stage<T: Tariff>(
 )
     requires room { size layout ≤ length cells.old }
     requires known { stage < layout.stages }
+    requires falling { Falling T.Cost.Cost.kind layout.width (row_costs T.Cost.Cost.kind layout cells.old (stage + 1)) }
     ensures { RowWritten T.Cost.Cost.kind layout stage (stage_row T.Cost.Cost.kind (T.Tariff.meaning timed.now.priced.tariff.now) (stage_tasks (book timed.now.priced.sheet.now).tasks stage) (row_costs T.Cost.Cost.kind layout cells.old (stage + 1)) 1441) cells.old cells.new }
 {
     let times = quoted_times(timed, stage as usize);
     write_row(cells, layout, stage, Cell::of(None));
     let end = TIMES.min(layout.width as usize);
+    let mut before = None;
     for (allowance, quoted) in times[..end].iter().enumerate() {
-        if *quoted && let Some(cost) = stage_cost(timed, stage as usize, allowance as u32) {
-            lower_row(cells, layout, stage, allowance as u32, cost);
+        if *quoted {
+            let cost = stage_cost(timed, stage as usize, allowance as u32);
+            if let Some(less) = less_than(before, cost) {
+                lower_row(cells, layout, stage, allowance as u32, less);
+            }
+            before = cost;
         }
     }
 }
