@@ -9,9 +9,10 @@ use Rattle.model.specs.Cell.{IsLeast}
 use Rattle.model.proofs.CostSteps.{cost_kept}
 use Rattle.model.proofs.LeastCosts.{at_most_refl, join_mono, cheapest_of_least}
 use Rattle.model.proofs.Loops.{cheapest_of_same}
-use Rattle.cells.specs.Memory.{Falling, less_than, offer_before}
+use Rattle.cells.specs.Memory.{Falling, if_less, offer_before}
 
 module _ {C : Type 0} {K : Kind C} (L : Laws K) where
+  -- a cost is the least of itself alone
   own_least : (o : Option C) → IsLeast K (λ c. o ≡ Some c) o
   own_least None = λ c e. cc
   own_least (Some d) = (refl, λ c e. let same : d ≡ c = cc in rw same (at_most_refl L c))
@@ -38,9 +39,9 @@ module _ {C : Type 0} {K : Kind C} (L : Laws K) where
       offers = offer_before K T tasks rest t
 
       -- an offer no less than one before it is not the cheapest
-      dearer : (u : ℕ) (b c r : C) → u < a → a ≤ t → is_time T tasks u ≡ true → cost_within K T tasks u ≡ Some b → K.at_most b c ≡ true → rest (t - a) ≡ Some r
+      offer_not_cheapest : (u : ℕ) (b c r : C) → u < a → a ≤ t → is_time T tasks u ≡ true → cost_within K T tasks u ≡ Some b → K.at_most b c ≡ true → rest (t - a) ≡ Some r
           → cheaper K (cheapest_of K offers a) (Some (K.join c r)) ≡ cheapest_of K offers a
-      dearer u b c r l m timed within less here =
+      offer_not_cheapest u b c r l m timed within less here =
           let fallen = falling (t - a) (t - u) r (omega arith) (omega arith) here in
           let offered : offers u ≡ Some (K.join b fallen.0) =
           ap (λ (v : Bool). cond (v && is_time T tasks u) (joined K (cost_within K T tasks u) (rest (t - u))) None) (le-leb u t (omega arith))
@@ -52,7 +53,8 @@ module _ {C : Type 0} {K : Kind C} (L : Laws K) where
           ∙ ap (λ (v : Bool). cond v (Some least.0) (Some (K.join c r))) most
           ∙ sym least.1
 
-      pub no_less : less_than K (cost_until K T tasks a) (cost_within K T tasks a) ≡ None → cheapest_of K offers (suc a) ≡ cheapest_of K offers a
+      -- where the stage costs no less than within one minute less, its offer leaves the cheapest as it is
+      pub no_less : if_less K (cost_until K T tasks a) (cost_within K T tasks a) ≡ None → cheapest_of K offers (suc a) ≡ cheapest_of K offers a
       no_less none = by_cost (cost_until K T tasks a) (cost_within K T tasks a) refl refl none
         where
           nothing : offers a ≡ None → cheapest_of K offers (suc a) ≡ cheapest_of K offers a
@@ -70,9 +72,9 @@ module _ {C : Type 0} {K : Kind C} (L : Laws K) where
               let before = last_time a b until in
               let offered : offers a ≡ Some (K.join c r) = ap (λ (v : Bool). cond v (joined K (cost_within K T tasks a) (rest (t - a))) None) h ∙ ap₂ (λ (x y : Option C). joined K x y) within here in
               ap (λ (o : Option C). cheaper K (cheapest_of K offers a) o) offered
-              ∙ dearer before.0 b c r before.1 (leb-true a t (and_parts (leb a t) (is_time T tasks a) h).0) before.2 before.3 less here
+              ∙ offer_not_cheapest before.0 b c r before.1 (leb-true a t (and_parts (leb a t) (is_time T tasks a) h).0) before.2 before.3 less here
 
-          by_cost : (before now : Option C) → cost_until K T tasks a ≡ before → cost_within K T tasks a ≡ now → less_than K before now ≡ None → cheapest_of K offers (suc a) ≡ cheapest_of K offers a
+          by_cost : (before now : Option C) → cost_until K T tasks a ≡ before → cost_within K T tasks a ≡ now → if_less K before now ≡ None → cheapest_of K offers (suc a) ≡ cheapest_of K offers a
           by_cost before None until within e = nothing (ap (λ (x : Option C). cond (leb a t && is_time T tasks a) (joined K x (rest (t - a))) None) within ∙ either (leb a t && is_time T tasks a))
           by_cost None (Some c) until within e = cc
           by_cost (Some b) (Some c) until within e = elim (cases_Bool (K.at_most b c)) [
@@ -87,7 +89,7 @@ module _ {C : Type 0} (K : Kind C) where
       (fallen.0, sym (same u m) ∙ fallen.1, fallen.2)
 
   -- what is less than the cost before is that cost
-  pub less_is : (before cost : Option C) (less : C) → less_than K before cost ≡ Some less → cost ≡ Some less
+  pub less_is : (before cost : Option C) (less : C) → if_less K before cost ≡ Some less → cost ≡ Some less
   less_is None cost less e = e
   less_is (Some b) None less e = cc
   less_is (Some b) (Some c) less e = elim (cases_Bool (K.at_most b c)) [

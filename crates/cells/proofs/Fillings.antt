@@ -1,6 +1,7 @@
 -- Rows filled from the last to the first
-use Rattle.std.proofs.Common.{◌≡◌, ℕ, zero, suc, ◌+◌, ◌-◌, ◌<◌, ◌≤◌, Bool, true, false, cond, ◌&&◌, leb, List, length, drop, Some, None, Ok, Option, sym, refl, ap, ◌∙◌, subst, ap₂, inl, inr, arith}
-use Rattle.std.proofs.lemmas.Bool.{and_right, lt-leb, cases_eq}
+use Rattle.std.proofs.Common.{◌≡◌, ℕ, zero, suc, ◌+◌, ◌-◌, ◌<◌, ◌≤◌, min, zero-le, Bool, true, false, cond, ◌&&◌, leb, List, length, take, drop, Some, None, Ok, Option, sym, refl, ap, ◌∙◌, subst, ap₂, inl, inr, arith}
+use Rattle.std.proofs.lemmas.List.{take-append-drop}
+use Rattle.std.proofs.lemmas.Bool.{and_right, lt-leb, cases_eq, cases_lt}
 use Rattle.refusals.specs.Answer.{Answer, refused_if}
 use Rattle.costs.specs.Kind.{Kind, Laws}
 use Rattle.tariffs.specs.Meaning.{Meaning, Ranged}
@@ -8,17 +9,19 @@ use Rattle.sheets.specs.Book.{Book}
 use Rattle.sheets.specs.declared.task.Task.{Task}
 use Rattle.model.specs.declared.cell.Cell.{Cell}
 use Rattle.model.specs.Assignment.{stage_tasks, standing}
-use Rattle.model.specs.Allowance.{joined, cheaper, cheapest_of, cost_within, cost_until, is_time}
-use Rattle.model.specs.Cell.{cell_of, cost_in, cell, least_cost, width}
+use Rattle.model.specs.Allowance.{joined, cheaper, cheapest_of, cost_within, cost_until, greatest_time, is_time}
+use Rattle.model.specs.Cell.{cell_of, cost_in, cell, least_cost, span, width}
 use Rattle.model.specs.Question.{filled}
-use Rattle.model.proofs.Loops.{cost_in_cell, cheapest_of_same, last_cell, cell_by_times, greatest_time_bound}
-use Rattle.model.proofs.LeastCosts.{falling}
+use Rattle.model.proofs.Loops.{cost_in_cell, cheapest_of_same, last_cell, cell_by_times, greatest_time_bound, stages_step}
+use Rattle.model.proofs.LeastCosts.{beyond, falling}
+use Rattle.model.proofs.Spans.{span_append}
 use Rattle.model.proofs.Tables.{filled_by_places}
 use Rattle.cells.specs.declared.layout.Layout.{Layout}
 use Rattle.cells.specs.Layout.{layout_of, size}
-use Rattle.cells.specs.Memory.{cell_at, row_costs, lowered, lowered_row, offer_before, stage_row, RowWritten, Falling, less_than}
+use Rattle.cells.specs.Memory.{up_to, cell_at, row_costs, lowered, lowered_row, offer_before, stage_row, RowWritten, Falling, if_less}
 use Rattle.cells.proofs.Drops.{no_less, falling_like}
 use Rattle.cells.proofs.Rows.{lowered_cheaper, written_as, written_then}
+use Rattle.cells.proofs.UpTo.{up_to_before, up_to_from, up_to_like}
 
 cheapest_of_like : {C : Type 0} (K : Kind C) (f g : ℕ → Option C) → ((a : ℕ) → f a ≡ g a) → (n : ℕ) → cheapest_of K f n ≡ cheapest_of K g n
 cheapest_of_like {C = C} K f g same zero = refl
@@ -49,25 +52,47 @@ module _ {C : Type 0} (K : Kind C) (T : Meaning C) (tasks : List Task) where
       (sym (cheapest_of_past K (offer_before K T tasks rest t) n (m - n) (λ a k l. ap (λ (b : Bool). cond (b && is_time T tasks a) (joined K (cost_within K T tasks a) (rest (t - a))) None) (lt-leb a t (past a k (omega arith)))))
       ∙ ap (cheapest_of K (offer_before K T tasks rest t)) (let e : n + (m - n) ≡ m = omega arith in e))
 
-  module _ {layout : Layout} {stage : ℕ} {before after : List (Cell C)} (rest : ℕ → Option C) (a : ℕ) (w : RowWritten K layout stage (stage_row K T tasks rest a) before after) where
-    -- a time at which the stage offers nothing
-    row_past : ((t : ℕ) → offer_before K T tasks rest t a ≡ None) → RowWritten K layout stage (stage_row K T tasks rest (a + 1)) before after
-    row_past none = written_as w (λ t _. ap (cell_of K) (sym (cheapest_of_same K T (offer_before K T tasks rest t) a (none t)) ∙ ap (cheapest_of K (offer_before K T tasks rest t)) (let e : suc a ≡ a + 1 = omega arith in e)))
+  -- nothing tried yet
+  pub row_begun : {layout : Layout} {stage : ℕ} {before after : List (Cell C)} (rest : ℕ → Option C) (end : ℕ) → RowWritten K layout stage (up_to 0 (cell_at K layout before stage) (λ _. cell_of K None)) before after
+      → RowWritten K layout stage (up_to end (stage_row K T tasks rest 0) (cell_at K layout after stage)) after after
+  row_begun {layout} {stage} {before} {after} rest end w = record {
+    here = λ t l. elim (cases_lt t end) [
+      | inl m ↦ w.here t l ∙ up_to_from (cell_at K layout before stage) (λ _. cell_of K None) 0 t zero-le ∙ sym (up_to_before (stage_row K T tasks rest 0) (cell_at K layout after stage) end t m)
+      | inr m ↦ sym (up_to_from (stage_row K T tasks rest 0) (cell_at K layout after stage) end t m)
+    ];
+    elsewhere = λ j t l n m. refl;
+    past = refl;
+  }
 
-    pub row_untimed : is_time T tasks a ≡ false → RowWritten K layout stage (stage_row K T tasks rest (a + 1)) before after
-    row_untimed e = row_past (λ t. ap (λ (b : Bool). cond b (joined K (cost_within K T tasks a) (rest (t - a))) None) (and_right (leb a t) _ e))
+  -- times below a tried, in the cells before the end
+  module _ {layout : Layout} {stage : ℕ} {before after : List (Cell C)} (rest : ℕ → Option C) (end : ℕ) (old : ℕ → Cell C) (a : ℕ) (w : RowWritten K layout stage (up_to end (stage_row K T tasks rest a) old) before after) where
+    row_kept : ((t : ℕ) → t < end → cheapest_of K (offer_before K T tasks rest t) (suc a) ≡ cheapest_of K (offer_before K T tasks rest t) a) → RowWritten K layout stage (up_to end (stage_row K T tasks rest (a + 1)) old) before after
+    row_kept kept = written_as w (λ t _. up_to_like (stage_row K T tasks rest a) (stage_row K T tasks rest (a + 1)) old end
+        (λ t l. ap (cell_of K) (sym (kept t l) ∙ ap (cheapest_of K (offer_before K T tasks rest t)) (let n : suc a ≡ a + 1 = omega arith in n))) t)
+
+    -- a time at which the stage offers nothing
+    pub row_untimed : is_time T tasks a ≡ false → RowWritten K layout stage (up_to end (stage_row K T tasks rest (a + 1)) old) before after
+    row_untimed e = row_kept (λ t _. cheapest_of_same K T (offer_before K T tasks rest t) a (ap (λ (b : Bool). cond b (joined K (cost_within K T tasks a) (rest (t - a))) None) (and_right (leb a t) _ e)))
 
     -- a time at which it costs no less than before
-    pub row_no_less : Laws K → Ranged T → Falling K layout.width rest → less_than K (cost_until K T tasks a) (cost_within K T tasks a) ≡ None → RowWritten K layout stage (stage_row K T tasks rest (a + 1)) before after
-    row_no_less L F falling e = written_as w (λ t l. ap (cell_of K) (sym (no_less L T F tasks rest layout.width t a falling l e) ∙ ap (cheapest_of K (offer_before K T tasks rest t)) (let n : suc a ≡ a + 1 = omega arith in n)))
+    pub row_no_less : Laws K → Ranged T → end ≤ layout.width → Falling K layout.width rest → if_less K (cost_until K T tasks a) (cost_within K T tasks a) ≡ None
+        → RowWritten K layout stage (up_to end (stage_row K T tasks rest (a + 1)) old) before after
+    row_no_less L F short falling e = row_kept (λ t l. no_less L T F tasks rest layout.width t a falling (omega arith) e)
 
     -- a time at which it has a cost
     pub row_lowered : {lower : List (Cell C)} (cost : C) → ((u : ℕ) → u < layout.width → row_costs K layout after (stage + 1) u ≡ rest u) → is_time T tasks a ≡ true → cost_within K T tasks a ≡ Some cost
-        → RowWritten K layout stage (lowered_row K layout after stage a cost) after lower → RowWritten K layout stage (stage_row K T tasks rest (a + 1)) before lower
-    row_lowered cost behind e f v = written_as (written_then w v) (λ t l.
-        ap₂ (λ (cell : Cell C) (o : Option C). lowered K cell o) (w.here t l) (offered t l)
-        ∙ lowered_cheaper K (cheapest_of K (offer_before K T tasks rest t) a) (offer_before K T tasks rest t a)
-        ∙ ap (λ (n : ℕ). stage_row K T tasks rest n t) (let n : suc a ≡ a + 1 = omega arith in n))
+        → RowWritten K layout stage (up_to end (lowered_row K layout after stage a cost) (cell_at K layout after stage)) after lower → RowWritten K layout stage (up_to end (stage_row K T tasks rest (a + 1)) old) before lower
+    row_lowered cost behind e f v = written_as (written_then w v) (λ t l. elim (cases_lt t end) [
+      | inl m ↦ up_to_before (lowered_row K layout after stage a cost) (cell_at K layout after stage) end t m
+          ∙ ap₂ (λ (cell : Cell C) (o : Option C). lowered K cell o) (w.here t l ∙ up_to_before (stage_row K T tasks rest a) old end t m) (offered t l)
+          ∙ lowered_cheaper K (cheapest_of K (offer_before K T tasks rest t) a) (offer_before K T tasks rest t a)
+          ∙ ap (λ (n : ℕ). stage_row K T tasks rest n t) (let n : suc a ≡ a + 1 = omega arith in n)
+          ∙ sym (up_to_before (stage_row K T tasks rest (a + 1)) old end t m)
+      | inr m ↦ up_to_from (lowered_row K layout after stage a cost) (cell_at K layout after stage) end t m
+          ∙ w.here t l
+          ∙ up_to_from (stage_row K T tasks rest a) old end t m
+          ∙ sym (up_to_from (stage_row K T tasks rest (a + 1)) old end t m)
+    ])
       where
         offered : (t : ℕ) → t < layout.width → cond (leb a t) (joined K (Some cost) (row_costs K layout after (stage + 1) (t - a))) None ≡ offer_before K T tasks rest t a
         offered t l =
@@ -78,9 +103,42 @@ module _ {C : Type 0} (K : Kind C) (T : Meaning C) (tasks : List Task) where
             both true = refl
             both false = refl
 
+-- the cells behind a minute written as the one at it
+pub row_extended : {C : Type 0} (K : Kind C) {layout : Layout} {stage : ℕ} {before after done : List (Cell C)} (row full old : ℕ → Cell C) (longest : ℕ) (last : Cell C) → longest < layout.width → last ≡ cell_at K layout after stage longest
+    → ((t : ℕ) → t ≤ longest → row t ≡ full t) → RowWritten K layout stage (up_to (longest + 1) row old) before after → RowWritten K layout stage (up_to (longest + 1) (cell_at K layout after stage) (λ _. last)) after done
+    → RowWritten K layout stage (λ t. full (min t longest)) before done
+row_extended K {layout} {stage} {before} {after} row full old longest last short e same w v = written_as (written_then w v) (λ t l. elim (cases_lt t (longest + 1)) [
+  | inl m ↦ up_to_before (cell_at K layout after stage) (λ _. last) (longest + 1) t m
+      ∙ w.here t l
+      ∙ up_to_before row old (longest + 1) t m
+      ∙ same t (omega arith)
+      ∙ ap full (let n : t ≡ min t longest = omega arith in n)
+  | inr m ↦ up_to_from (cell_at K layout after stage) (λ _. last) (longest + 1) t m
+      ∙ e
+      ∙ w.here longest short
+      ∙ up_to_before row old (longest + 1) longest (omega arith)
+      ∙ same longest (omega arith)
+      ∙ ap full (let n : longest ≡ min t longest = omega arith in n)
+])
+
 pub enough_if_made : {A : Type 0} (few : Bool) (a made : A) → ◌≡◌ {A = Answer A} (Ok a) (refused_if few 7 (Ok made)) → (few ≡ false) × (a ≡ made)
 enough_if_made true a made e = cc
 enough_if_made false a made e = (refl, cc)
+
+-- the greatest length of the stages from one on
+module _ {C : Type 0} (T : Meaning C) (book : Book) where
+  longest_more : (j : ℕ) → j < book.stages → span T (drop j (standing book)) ≡ greatest_time T (stage_tasks book.tasks j) + span T (drop (j + 1) (standing book))
+  longest_more j l = ap (span T) (stages_step book j l)
+
+  pub longest_from : (stage longest time : ℕ) → 0 < stage → stage ≤ book.stages → longest ≡ span T (drop stage (standing book)) → time ≡ greatest_time T (stage_tasks book.tasks (stage - 1))
+      → longest + time ≡ span T (drop (stage - 1) (standing book))
+  longest_from stage longest time some known e t =
+      let more = longest_more (stage - 1) (omega arith) in
+      let next = ap (λ (n : ℕ). span T (drop n (standing book))) (let n : stage - 1 + 1 ≡ stage = omega arith in n) in
+      omega arith
+
+  pub longest_short : (j : ℕ) → span T (drop j (standing book)) < width T book
+  longest_short j = let all = ap (span T) (sym (take-append-drop j (standing book))) ∙ span_append T (take j (standing book)) (drop j (standing book)) in omega (arith, all)
 
 -- the rows of the stages from j on hold what they should, and memory past the cells is as it was
 pub record FilledFrom {C : Type 0} (K : Kind C) (T : Meaning C) (book : Book) (layout : Layout) (from : ℕ) (before after : List (Cell C)) : Type 0 where
@@ -96,23 +154,33 @@ module _ {C : Type 0} {K : Kind C} (L : Laws K) (T : Meaning C) (F : Ranged T) (
       (λ t u c l m e. falling L T F (drop j (standing book)) t u c e l)
 
   last_row : {before after : List (Cell C)} (cell : Cell C) → cell ≡ cell_of K (Some K.neutral)
-      → RowWritten K (layout_of T book) book.stages (λ _. cell) before after → FilledFrom K T book (layout_of T book) book.stages after after
+      → RowWritten K (layout_of T book) book.stages (up_to 0 (cell_at K (layout_of T book) before book.stages) (λ _. cell)) before after → FilledFrom K T book (layout_of T book) book.stages after after
   last_row {before} {after} last e w = record {
     rows = λ j t l m n. let i : j ≡ book.stages = omega arith in
-        ap (λ (k : ℕ). cell_at K (layout_of T book) after k t) i ∙ w.here t n ∙ e ∙ sym (last_cell L T F book t) ∙ ap (λ (k : ℕ). cell K T book k t) (sym i);
+        ap (λ (k : ℕ). cell_at K (layout_of T book) after k t) i ∙ w.here t n ∙ up_to_from (cell_at K (layout_of T book) before book.stages) (λ _. last) 0 t zero-le ∙ e ∙ sym (last_cell L T F book t) ∙ ap (λ (k : ℕ). cell K T book k t) (sym i);
     past = refl;
   }
 
   module _ {before between after : List (Cell C)} (j : ℕ) (known : j < book.stages) (h : FilledFrom K T book (layout_of T book) (j + 1) before between)
-      (w : RowWritten K (layout_of T book) j (stage_row K T (stage_tasks book.tasks j) (row_costs K (layout_of T book) between (j + 1)) 1441) between after) where
+      (longest : ℕ) (spanned : longest ≡ span T (drop j (standing book)))
+      (w : RowWritten K (layout_of T book) j (λ t. stage_row K T (stage_tasks book.tasks j) (row_costs K (layout_of T book) between (j + 1)) 1441 (min t longest)) between after) where
     behind : (u : ℕ) → u < width T book → row_costs K (layout_of T book) between (j + 1) u ≡ least_cost K T (drop (j + 1) (standing book)) u
     behind u l = ap (λ (c : Cell C). cost_in c) (h.rows (j + 1) u (omega arith) (omega arith) l) ∙ cost_in_cell K (least_cost K T (drop (j + 1) (standing book)) u)
 
-    here : (t : ℕ) → t < width T book → cell_at K (layout_of T book) after j t ≡ cell K T book j t
-    here t l =
-        w.here t l
-        ∙ stage_row_like K T (stage_tasks book.tasks j) (row_costs K (layout_of T book) between (j + 1)) (least_cost K T (drop (j + 1) (standing book))) 1441 t (λ u m. behind u (omega arith))
+    filled_to : (t : ℕ) → t < width T book → stage_row K T (stage_tasks book.tasks j) (row_costs K (layout_of T book) between (j + 1)) 1441 t ≡ cell K T book j t
+    filled_to t l =
+        stage_row_like K T (stage_tasks book.tasks j) (row_costs K (layout_of T book) between (j + 1)) (least_cost K T (drop (j + 1) (standing book))) 1441 t (λ u m. behind u (omega arith))
         ∙ sym (cell_by_times L T F book j t 1441 known (omega (arith, greatest_time_bound T F (stage_tasks book.tasks j))))
+
+    -- a cell past the longest assignment is the one at its length
+    past_longest : (t : ℕ) → cell K T book j (min t longest) ≡ cell K T book j t
+    past_longest t = elim (cases_lt t longest) [
+      | inl m ↦ ap (cell K T book j) (let n : min t longest ≡ t = omega arith in n)
+      | inr m ↦ ap (cell K T book j) ((let n : min t longest ≡ longest = omega arith in n) ∙ spanned) ∙ sym (ap (cell_of K) (beyond L T F (drop j (standing book)) t (omega arith)))
+    ]
+
+    here : (t : ℕ) → t < width T book → cell_at K (layout_of T book) after j t ≡ cell K T book j t
+    here t l = w.here t l ∙ filled_to (min t longest) (omega arith) ∙ past_longest t
 
     row_more : FilledFrom K T book (layout_of T book) j before after
     row_more = record {
@@ -128,13 +196,13 @@ module _ {C : Type 0} {K : Kind C} (L : Laws K) (T : Meaning C) (F : Ranged T) (
 
   -- the same at a layout that is equal
   module _ (layout : Layout) (e : layout ≡ layout_of T book) {before after : List (Cell C)} where
-    pub filled_last : (cell : Cell C) → cell ≡ cell_of K (Some K.neutral) → RowWritten K layout layout.stages (λ _. cell) before after → FilledFrom K T book layout layout.stages after after
-    filled_last = subst (λ (l : Layout). (cell : Cell C) → cell ≡ cell_of K (Some K.neutral) → RowWritten K l l.stages (λ _. cell) before after → FilledFrom K T book l l.stages after after) (sym e) last_row
+    pub filled_last : (cell : Cell C) → cell ≡ cell_of K (Some K.neutral) → RowWritten K layout layout.stages (up_to 0 (cell_at K layout before layout.stages) (λ _. cell)) before after → FilledFrom K T book layout layout.stages after after
+    filled_last = subst (λ (l : Layout). (cell : Cell C) → cell ≡ cell_of K (Some K.neutral) → RowWritten K l l.stages (up_to 0 (cell_at K l before l.stages) (λ _. cell)) before after → FilledFrom K T book l l.stages after after) (sym e) last_row
 
-    pub filled_more : {between : List (Cell C)} (j : ℕ) → j < layout.stages → FilledFrom K T book layout (j + 1) before between
-        → RowWritten K layout j (stage_row K T (stage_tasks book.tasks j) (row_costs K layout between (j + 1)) 1441) between after → FilledFrom K T book layout j before after
-    filled_more {between} = subst (λ (l : Layout). (j : ℕ) → j < l.stages → FilledFrom K T book l (j + 1) before between
-        → RowWritten K l j (stage_row K T (stage_tasks book.tasks j) (row_costs K l between (j + 1)) 1441) between after → FilledFrom K T book l j before after) (sym e) row_more
+    pub filled_more : {between : List (Cell C)} (j : ℕ) → j < layout.stages → FilledFrom K T book layout (j + 1) before between → (longest : ℕ) → longest ≡ span T (drop j (standing book))
+        → RowWritten K layout j (λ t. stage_row K T (stage_tasks book.tasks j) (row_costs K layout between (j + 1)) 1441 (min t longest)) between after → FilledFrom K T book layout j before after
+    filled_more {between} = subst (λ (l : Layout). (j : ℕ) → j < l.stages → FilledFrom K T book l (j + 1) before between → (longest : ℕ) → longest ≡ span T (drop j (standing book))
+        → RowWritten K l j (λ t. stage_row K T (stage_tasks book.tasks j) (row_costs K l between (j + 1)) 1441 (min t longest)) between after → FilledFrom K T book l j before after) (sym e) row_more
 
     pub filled_all : size layout ≤ length after → FilledFrom K T book layout 0 before after → after ≡ filled K T book before
     filled_all = subst (λ (l : Layout). size l ≤ length after → FilledFrom K T book l 0 before after → after ≡ filled K T book before) (sym e) all_rows

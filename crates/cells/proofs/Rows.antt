@@ -8,9 +8,9 @@ use Rattle.model.specs.Allowance.{cheaper}
 use Rattle.model.specs.Cell.{cell_of}
 use Rattle.cells.specs.declared.layout.Layout.{Layout}
 use Rattle.cells.specs.Layout.{place_in, size}
-use Rattle.cells.specs.Memory.{cell_at, RowWritten, lowered}
+use Rattle.cells.specs.Memory.{up_to, cell_at, RowWritten, lowered}
 use Rattle.cells.proofs.Places.{place_inside, place_apart}
-use Rattle.cells.proofs.UpTo.{up_to, up_to_before, up_to_from, up_to_other}
+use Rattle.cells.proofs.UpTo.{up_to_before, up_to_from, up_to_other}
 
 -- lowering a cell keeps the cheaper cost
 pub lowered_cheaper : {C : Type 0} (K : Kind C) (o u : Option C) → lowered K (cell_of K o) u ≡ cell_of K (cheaper K o u)

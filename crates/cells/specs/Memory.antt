@@ -1,5 +1,5 @@
 -- Cells read and rows written in memory
-use Rattle.std.specs.Prelude.{◌≡◌, ℕ, ◌+◌, ◌-◌, ◌<◌, ◌≤◌, Bool, true, cond, not, ◌&&◌, ◌||◌, List, drop, Some, None, Option, ◌≢◌, nat_le, slice_index_or}
+use Rattle.std.specs.Prelude.{◌≡◌, ℕ, ◌+◌, ◌-◌, ◌<◌, ◌≤◌, Bool, true, cond, not, ◌&&◌, ◌||◌, List, drop, Some, None, Option, ◌≢◌, nat_le, nat_lt, slice_index_or}
 use Rattle.costs.specs.Kind.{Kind}
 use Rattle.tariffs.specs.Meaning.{Meaning}
 use Rattle.sheets.specs.declared.task.Task.{Task}
@@ -8,6 +8,10 @@ use Rattle.model.specs.Allowance.{joined, cheapest_of, cost_within, is_time}
 use Rattle.model.specs.Cell.{cell_of, cost_in}
 use Rattle.cells.specs.declared.layout.Layout.{Layout}
 use Rattle.cells.specs.Layout.{place_in, size}
+
+-- new before n, old from there on
+abbrev pub up_to : {A : Type 0} → ℕ → (ℕ → A) → (ℕ → A) → ℕ → A
+up_to n new old i = cond (nat_lt i n) (new i) (old i)
 
 module _ {C : Type 0} (K : Kind C) where
   -- the cell at its place; past the memory, one not reached
@@ -33,15 +37,15 @@ module _ {C : Type 0} (K : Kind C) where
   abbrev pub row_costs : Layout → List (Cell C) → ℕ → ℕ → Option C
   row_costs layout cells j t = cost_in (cell_at layout cells j t)
 
-  -- more minutes in a row are never dearer
+  -- where a row has a cost, it has one no dearer at more minutes
   abbrev pub Falling : ℕ → (ℕ → Option C) → Type 0
   Falling width costs = (t u : ℕ) (c : C) → t ≤ u → u < width → costs t ≡ Some c → (d : C) × (costs u ≡ Some d) × (K.at_most d c ≡ true)
 
   -- a cost, where it is less than the one before it
-  abbrev pub less_than : Option C → Option C → Option C
-  less_than None cost = cost
-  less_than (Some b) None = None
-  less_than (Some b) (Some c) = cond (K.at_most b c) None (Some c)
+  abbrev pub if_less : Option C → Option C → Option C
+  if_less None cost = cost
+  if_less (Some b) None = None
+  if_less (Some b) (Some c) = cond (K.at_most b c) None (Some c)
 
   -- the row of a stage, lowered to what its cost within an allowance and the row behind it come to
   abbrev pub lowered_row : Layout → List (Cell C) → ℕ → ℕ → C → ℕ → Cell C

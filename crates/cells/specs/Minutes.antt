@@ -5,7 +5,7 @@ use Rattle.sheets.specs.Tasks.{max_tasks, no_task}
 use Rattle.sheets.specs.declared.task.Task.{Task}
 use Rattle.model.specs.Assignment.{quote_of, minutes_of}
 
--- the task with a number; past the tasks, one that no machine quotes
+-- the task of this number; past the tasks one of work 0, which no tariff quotes
 abbrev pub task_at : List Task → ℕ → Task
 task_at tasks number = slice_index_or tasks number no_task
 

@@ -10,7 +10,7 @@ use costs::Cost;
 use model::Choice;
 use tariffs::Tariff;
 
-// The machine with what it quotes for the task with a number, if that takes no more than the allowance.
+// The machine with what it quotes for the task of this number, if that takes no more than the allowance.
 fn choice_within<T: Tariff>(
     timed: &TimedSheet<T>,
     number: usize,
@@ -41,7 +41,7 @@ fn cheaper_choice<C: Cost>(first: Option<Choice<C>>, second: Option<Choice<C>>) 
     }
 }
 
-// The cheapest quote, within the allowance, of the task with a number, on the lowest machine among equals.
+// The cheapest quote, within the allowance, of the task of this number, on the lowest machine among equals.
 pub fn cheapest<T: Tariff>(
     timed: &TimedSheet<T>,
     number: usize,
@@ -52,7 +52,11 @@ pub fn cheapest<T: Tariff>(
 {
     let mut best = None;
     for machine in 0..timed.priced.tariff.machines() {
-        best = cheaper_choice(best, choice_within(timed, number, machine, allowance));
+        let choice = choice_within(timed, number, machine, allowance);
+        // Most machines give none; then nothing is copied.
+        if choice.is_some() {
+            best = cheaper_choice(best, choice);
+        }
     }
     best
 }

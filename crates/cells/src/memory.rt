@@ -2,7 +2,7 @@
 ghost use Rattle.std.specs.Prelude.{◌≡◌, ◌<◌, ◌≤◌, length, Some, None, slice_index_or, slice_set};
 ghost use Rattle.model.specs.Cell.{cell_of, cost_in};
 ghost use Rattle.cells.specs.Layout.{size};
-ghost use Rattle.cells.specs.Memory.{cell_at, RowWritten, is_lowered, lowered, lowered_row};
+ghost use Rattle.cells.specs.Memory.{cell_at, up_to, RowWritten, is_lowered, lowered, lowered_row};
 
 use crate::Layout;
 use costs::Cost;
@@ -25,13 +25,19 @@ impl<'a, C: Cost> CellRows<'a, C> {
     }
 }
 
-// Writes a cell all along the row of a stage.
-pub(crate) fn write_row<C: Cost>(cells: &mut [Cell<C>], layout: Layout, stage: u32, cell: Cell<C>)
+// Writes a cell along the row of a stage, from a minute on.
+pub(crate) fn write_row<C: Cost>(
+    cells: &mut [Cell<C>],
+    layout: Layout,
+    stage: u32,
+    start: u32,
+    cell: Cell<C>,
+)
     requires room { size layout ≤ length cells.old }
     requires known { stage ≤ layout.stages }
-    ensures { RowWritten C.Cost.kind layout stage (λ _. cell) cells.old cells.new }
+    ensures { RowWritten C.Cost.kind layout stage (up_to start (cell_at C.Cost.kind layout cells.old stage) (λ _. cell)) cells.old cells.new }
 {
-    for minutes in 0..layout.width {
+    for minutes in start..layout.width {
         cells[layout.place(stage, minutes)] = cell;
     }
 }
@@ -43,30 +49,41 @@ fn is_lowered<C: Cost>(cell: &Cell<C>, offer: C) -> bool
     cell.least().is_none_or(|least| !least.at_most(offer))
 }
 
+// Puts a cost into a cell. Each field by itself, so that the bytes between them are not written.
+fn put<C: Cost>(cell: &mut Cell<C>, cost: C)
+    ensures { cell.new ≡ cell_of C.Cost.kind (Some cost) }
+{
+    cell.reached = true;
+    cell.cost = cost;
+}
+
 // Lowers the cell at a place to an offer, where that is less.
 fn lower<C: Cost>(cells: &mut [Cell<C>], place: usize, offer: C)
     requires { place < length cells.old }
     ensures { cells.new ≡ slice_set cells.old place (lowered C.Cost.kind (slice_index_or cells.old place (cell_of C.Cost.kind None)) (Some offer)) }
 {
     if is_lowered(&cells[place], offer) {
-        cells[place] = Cell::of(Some(offer));
+        put(&mut cells[place], offer);
     }
 }
 
-// Lowers each cell of a stage's row, from the allowance on, to what its cost within that and the cell behind it come to,
-// where that is less.
+// Lowers each cell of a stage's row, from the allowance to before the end, to what its cost within that and the cell behind
+// it come to, where that is less.
 pub(crate) fn lower_row<C: Cost>(
     cells: &mut [Cell<C>],
     layout: Layout,
     stage: u32,
     allowance: u32,
     cost: C,
+    end: u32,
 )
     requires room { size layout ≤ length cells.old }
     requires known { stage < layout.stages }
-    ensures { RowWritten C.Cost.kind layout stage (lowered_row C.Cost.kind layout cells.old stage allowance cost) cells.old cells.new }
+    requires before { allowance ≤ end }
+    requires short { end ≤ layout.width }
+    ensures { RowWritten C.Cost.kind layout stage (up_to end (lowered_row C.Cost.kind layout cells.old stage allowance cost) (cell_at C.Cost.kind layout cells.old stage)) cells.old cells.new }
 {
-    for minutes in allowance..layout.width {
+    for minutes in allowance..end {
         let behind = layout.place(stage + 1, minutes - allowance);
         if let Some(rest) = cells[behind].least() {
             lower(cells, layout.place(stage, minutes), cost.join(rest));

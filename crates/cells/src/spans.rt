@@ -10,7 +10,7 @@ use crate::TimedSheet;
 use costs::Cost;
 use tariffs::Tariff;
 
-// The greatest time quoted to the task with a number, 0 without any.
+// The greatest time quoted to the task of this number, 0 without any.
 fn greatest_quote<T: Tariff>(timed: &TimedSheet<T>, number: usize) -> u32
     ensures { result ≡ greatest_time_below (T.Tariff.meaning timed.now.priced.tariff.now) (task_at (book timed.now.priced.sheet.now).tasks number) (T.Tariff.meaning timed.now.priced.tariff.now).count }
 {
@@ -22,7 +22,7 @@ fn greatest_quote<T: Tariff>(timed: &TimedSheet<T>, number: usize) -> u32
 }
 
 // The greatest time quoted to a standing task of a stage, 0 without any.
-fn greatest_time<T: Tariff>(timed: &TimedSheet<T>, stage: usize) -> u32
+pub(crate) fn greatest_time<T: Tariff>(timed: &TimedSheet<T>, stage: usize) -> u32
     ensures { result ≡ greatest_time (T.Tariff.meaning timed.now.priced.tariff.now) (stage_tasks (book timed.now.priced.sheet.now).tasks stage) }
 {
     let mut greatest: u32 = 0;

@@ -14,7 +14,7 @@ use tariffs::{MAX_MINUTES, Tariff};
 // How many different times there are, from 0 minutes to the longest that a quote takes.
 pub const TIMES: usize = MAX_MINUTES as usize + 1;
 
-// Marks each time that a machine quotes for the task with a number.
+// Marks each time that a machine quotes for the task of this number.
 fn mark<T: Tariff>(timed: &TimedSheet<T>, number: usize, times: &mut [bool; TIMES])
     ensures { (m : ℕ) → m < 1441 → slice_index_or times.new m false ≡ (slice_index_or times.old m false || any (takes (T.Tariff.meaning timed.now.priced.tariff.now) (task_at (book timed.now.priced.sheet.now).tasks number) m) (range_with_len 0 (T.Tariff.meaning timed.now.priced.tariff.now).count)) }
 {

@@ -73,7 +73,7 @@ module _ {C : Type 0} (T : Meaning C) where
       ∙ (let e : greatest_time T (get_or (standing book) j []) ≡ greatest_time T (stage_tasks book.tasks j) = ap (greatest_time T) (stage_at book j l) in omega arith)
 
   module _ (F : Ranged T) where
-    minutes_bound : (task : Task) (machine : ℕ) → minutes_of (quote_of T task machine) ≤ 1440
+    pub minutes_bound : (task : Task) (machine : ℕ) → minutes_of (quote_of T task machine) ≤ 1440
     minutes_bound task machine = go (quote_of T task machine) refl
       where
         go : (o : Option (Quote C)) → quote_of T task machine ≡ o → minutes_of o ≤ 1440

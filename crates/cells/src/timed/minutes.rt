@@ -53,7 +53,7 @@ impl<'a, 'b, T: Tariff> TimedSheet<'a, 'b, T> {
         }
     }
 
-    // The minutes that a machine quotes for the task with a number, 0 without a quote.
+    // The minutes that a machine quotes for the task of this number, 0 without a quote.
     pub fn minutes(&self, number: usize, machine: usize) -> u32
         ensures { result ≡ minutes_of (quote_of (T.Tariff.meaning self.now.priced.tariff.now) (task_at (book self.now.priced.sheet.now).tasks number) machine) }
     {

@@ -29,8 +29,8 @@ loop-minutes-preserved g c =
     λ o e. sym (ap (λ (cell : Cell g.row.C.Denot). cost_in cell) (c.index-cells-behind.is ∙ behind c.index-cells-behind.result)) ∙ sym c.least.ensures ∙ e in
     elim c.match-least.branch [
       | in-Some w ↦
-          let here = still new m c.loop-minutes.invariant c.loop-minutes-test.true in
-          rw (w.cells-is, w.lower.ensures, w.place.ensures.value) (written_more new m c.loop-minutes.invariant (lowered K (cell_at K c.args.layout cells c.args.stage m) (Some w.join.result)) (omega arith) c.loop-minutes-test.true room
+          let here = still new m c.loop-minutes.invariant (omega arith) in
+          rw (w.cells-is, w.lower.ensures, w.place.ensures.value) (written_more new m c.loop-minutes.invariant (lowered K (cell_at K c.args.layout cells c.args.stage m) (Some w.join.result)) (omega arith) (omega arith) room
           (lowered_by K c.args.layout before c.args.stage a c.args.cost m allowed (Some w.in-Some.rest) (rest _ w.in-Some.is)
           ∙ sym (ap₂ (λ (cell : Cell g.row.C.Denot) (o : g.row.C.Denot). lowered K cell (Some o)) here w.join.ensures)))
       | in_default w ↦ rw w.cells-is (written_past new m c.loop-minutes.invariant (lowered_by K c.args.layout before c.args.stage a c.args.cost m allowed None (rest _ w.in_default.is)))

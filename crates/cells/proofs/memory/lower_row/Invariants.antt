@@ -1,5 +1,4 @@
-use Rattle.cells.specs.Memory.{cell_at, RowWritten, lowered_row}
-use Rattle.cells.proofs.UpTo.{up_to}
+use Rattle.cells.specs.Memory.{up_to, cell_at, RowWritten, lowered_row}
 use Rattle.cells.proofs.memory.lower_row.Given as goal
 
 abbrev pub invariant-loop-minutes : goal.invariant-loop-minutes

@@ -1,6 +1,6 @@
 use Rattle.std.proofs.Common.{◌≡◌, ℕ, get_or, length}
 use Rattle.model.specs.Assignment.{quote_of, minutes_of}
-use Rattle.cells.proofs.UpTo.{up_to}
+use Rattle.cells.specs.Memory.{up_to}
 use Rattle.cells.proofs.timed.minutes.ask_minutes.Given as goal
 
 abbrev pub invariant-loop-machine : goal.invariant-loop-machine
