@@ -1,5 +1,5 @@
 -- What the text of an answer tells, in words
-use Rattle.std.specs.Prelude.{◌≡◌, ℕ, ◌<◌, false, List, Ok, Err}
+use Rattle.std.specs.Prelude.{◌≡◌, ℕ, List, Ok, Err}
 use Rattle.std.specs.List.{flat_map}
 use Rattle.refusals.specs.Answer.{Answer, Refused, plain, carrying}
 use Rattle.costs.specs.Cents.{cents, cents_kind, cents_text}
@@ -12,7 +12,7 @@ use Rattle.sheets.specs.Book.{Book, book}
 use Rattle.model.specs.declared.point.Point.{Point}
 use Rattle.model.specs.Assignment.{standing, HasPair}
 use Rattle.model.specs.Front.{IsFront}
-use Rattle.model.specs.Limit.{IsBudget, IsDeadline, IsLowestUnquoted}
+use Rattle.model.specs.Limit.{IsBudget, IsDeadline, IsLowestUnquoted, TooDear, TooLong}
 use Rattle.model.specs.Plan.{IsPlan}
 use Rattle.keylines.specs.Plan.{assigned_tasks, result_text}
 use Rattle.keylines.specs.Point.{point_line}
@@ -42,8 +42,8 @@ module _ (T : Meaning Cents) (book : Book) where
 
   abbrev pub LinesTell : Question → Answer (List ℕ) → Type 0
   LinesTell Front = FrontLines
-  LinesTell (Budget limit) = LimitLines (IsBudget cents_kind T (standing book) (cents limit)) (λ p. cents_kind.at_most p.cost (cents limit) ≡ false)
-  LinesTell (Deadline limit) = LimitLines (IsDeadline cents_kind T (standing book) limit) (λ p. limit < p.length)
+  LinesTell (Budget limit) = LimitLines (IsBudget cents_kind T (standing book) (cents limit)) (TooDear cents_kind (cents limit))
+  LinesTell (Deadline limit) = LimitLines (IsDeadline cents_kind T (standing book) limit) (TooLong limit)
 
 -- for every card, every sheet and every question
 abbrev pub AnswersTell : Type 0

@@ -72,6 +72,14 @@ module _ {C : Type 0} (K : Kind C) (T : Meaning C) where
     pub cheapest : (q : Point C) → HasPair K T stages q → q.length ≤ limit → K.at_most p.cost q.cost ≡ true
     pub shortest : (q : Point C) → HasPair K T stages q → q.cost ≡ p.cost → p.length ≤ q.length
 
+-- the pair costs more than a budget
+abbrev pub TooDear : {C : Type 0} → Kind C → C → Point C → Type 0
+TooDear K limit p = K.at_most p.cost limit ≡ false
+
+-- the pair takes longer than a deadline
+abbrev pub TooLong : {C : Type 0} → ℕ → Point C → Type 0
+TooLong limit p = limit < p.length
+
 -- the task of this number stands and no machine quotes it, and no lower one does
 abbrev pub IsLowestUnquoted : {C : Type 0} → Meaning C → Book → ℕ → Type 0
 IsLowestUnquoted T book n = Unquoted T book n × ((m : ℕ) → m < n → Unquoted T book m → ⊥)
@@ -85,9 +93,9 @@ pub record LimitsInWords {C : Type 0} (K : Kind C) (T : Meaning C) (book : Book)
   pub deadline_unquoted : (limit n : ℕ) → IsLowestUnquoted T book n ↔ (deadline_result K T book limit ≡ Err (carrying 9 n))
   -- refusal 10
   pub none_affordable : (limit : C)
-      → (((n : ℕ) → Unquoted T book n → ⊥) × ((p : Point C) → HasPair K T (standing book) p → K.at_most p.cost limit ≡ false)) ↔ (budget_result K T book limit ≡ Err (plain 10))
+      → (((n : ℕ) → Unquoted T book n → ⊥) × ((p : Point C) → HasPair K T (standing book) p → TooDear K limit p)) ↔ (budget_result K T book limit ≡ Err (plain 10))
   pub none_in_time : (limit : ℕ)
-      → (((n : ℕ) → Unquoted T book n → ⊥) × ((p : Point C) → HasPair K T (standing book) p → limit < p.length)) ↔ (deadline_result K T book limit ≡ Err (plain 10))
+      → (((n : ℕ) → Unquoted T book n → ⊥) × ((p : Point C) → HasPair K T (standing book) p → TooLong limit p)) ↔ (deadline_result K T book limit ≡ Err (plain 10))
   -- a deadline past the span is the same as the span
   pub deadline_held : (limit : ℕ) → span T (standing book) ≤ limit → deadline_result K T book limit ≡ deadline_result K T book (span T (standing book))
 

@@ -12,7 +12,7 @@ use Rattle.model.specs.declared.cell.Cell.{Cell}
 use Rattle.model.specs.declared.point.Point.{Point}
 use Rattle.model.specs.Assignment.{standing, HasPair}
 use Rattle.model.specs.Front.{front, IsFront}
-use Rattle.model.specs.Limit.{budget_result, deadline_result, IsBudget, IsDeadline, IsLowestUnquoted, LimitsInWords}
+use Rattle.model.specs.Limit.{budget_result, deadline_result, IsBudget, IsDeadline, IsLowestUnquoted, LimitsInWords, TooDear, TooLong}
 use Rattle.model.specs.Plan.{plan, allowances_for, byte_under, IsPlan, Planned, SharedOut}
 use Rattle.model.specs.Question.{few_cells, short_plan, limit_answer, limit_bytes}
 use Rattle.model.proofs.FrontsInWords.{front_in_words}
@@ -47,7 +47,7 @@ module _ {C : Type 0} {K : Kind C} (laws : Laws K) (T : Meaning C) (ranged : Ran
   pub limits_of : (sheet : Sheet) → LimitsInWords K T (book sheet)
   limits_of = of_every_sheet (LimitsInWords K T) (limits_give_best_pairs laws T ranged)
 
-  pub plans_of : (sheet : Sheet) → Planned K T (book sheet)
+  plans_of : (sheet : Sheet) → Planned K T (book sheet)
   plans_of = of_every_sheet (Planned K T) (plans_go_by_the_first_list laws T ranged)
 
   pub limits_shared_out : (sheet : Sheet) → SharedOut K T (book sheet)
@@ -67,14 +67,14 @@ module _ {C : Type 0} {K : Kind C} (laws : Laws K) (T : Meaning C) (ranged : Ran
     abbrev b : Book
     b = book sheet
 
-    pub budget_says : (limit : C) → ResultSays K T b (IsBudget K T (standing b) limit) (λ p. K.at_most p.cost limit ≡ false) (budget_result K T b limit)
+    pub budget_says : (limit : C) → ResultSays K T b (IsBudget K T (standing b) limit) (TooDear K limit) (budget_result K T b limit)
     budget_says limit = record {
       best = λ p e. (((limits_of sheet).budgets limit p).1 e, (plans_of sheet).budgets limit p e);
       unquoted = λ task. ((limits_of sheet).budget_unquoted limit task).1;
       none_within = λ e. (((limits_of sheet).none_affordable limit).1 e).1;
     }
 
-    pub deadline_says : (limit : ℕ) → ResultSays K T b (IsDeadline K T (standing b) limit) (λ p. limit < p.length) (deadline_result K T b limit)
+    pub deadline_says : (limit : ℕ) → ResultSays K T b (IsDeadline K T (standing b) limit) (TooLong limit) (deadline_result K T b limit)
     deadline_says limit = record {
       best = λ p e. (((limits_of sheet).deadlines limit p).1 e, (plans_of sheet).deadlines limit p e);
       unquoted = λ task. ((limits_of sheet).deadline_unquoted limit task).1;
@@ -83,14 +83,14 @@ module _ {C : Type 0} {K : Kind C} (laws : Laws K) (T : Meaning C) (ranged : Ran
 
     module _ (cells : List (Cell C)) (bytes after : List ℕ) where
       -- the words hold of whatever is answered with this result behind 7 and 8, and of what is then written
-      abbrev Told : (List ℕ → Result (Point C) QuestionRefusal → Type 0) → Answer (Point C) → Type 0
-      Told Words result =
+      abbrev WordsHold : (List ℕ → Result (Point C) QuestionRefusal → Type 0) → Answer (Point C) → Type 0
+      WordsHold Words result =
           (r : Result (Point C) QuestionRefusal)
           → answer_of question_told r ≡ limit_answer T b cells bytes result
           → after ≡ limit_bytes K T b (limit_answer T b cells bytes result) bytes
           → Words after r
 
-      limit_tells : {IsBest TooMuch : Point C → Type 0} {result : Answer (Point C)} → ResultSays K T b IsBest TooMuch result → Told (LimitTells K T b IsBest TooMuch) result
+      limit_tells : {IsBest TooMuch : Point C → Type 0} {result : Answer (Point C)} → ResultSays K T b IsBest TooMuch result → WordsHold (LimitTells K T b IsBest TooMuch) result
       limit_tells says (Ok p) e w =
           let best = says.best p (sym (passed (short_plan T b bytes) 8 _ p (passed (few_cells T b cells) 7 _ p e).1).1) in
           (best.0, has_plan b p bytes after best.1 (w ∙ ap (λ (a : Answer (Point C)). limit_bytes K T b a bytes) (sym e)))
@@ -99,8 +99,8 @@ module _ {C : Type 0} {K : Kind C} (laws : Laws K) (T : Meaning C) (ranged : Ran
       limit_tells says (Err (Unquoted task)) e w = says.unquoted task (refused_behind _ _ _ (carrying 9 task) (omega arith) e)
       limit_tells says (Err NoneWithin) e w = says.none_within (refused_behind _ _ _ (plain 10) (omega arith) e)
 
-      pub budget_tells : (limit : C) → Told (BudgetTells K T b limit) (budget_result K T b limit)
+      pub budget_tells : (limit : C) → WordsHold (BudgetTells K T b limit) (budget_result K T b limit)
       budget_tells limit = limit_tells (budget_says limit)
 
-      pub deadline_tells : (limit : ℕ) → Told (DeadlineTells K T b limit) (deadline_result K T b limit)
+      pub deadline_tells : (limit : ℕ) → WordsHold (DeadlineTells K T b limit) (deadline_result K T b limit)
       deadline_tells limit = limit_tells (deadline_says limit)

@@ -1,12 +1,12 @@
 -- What the questions answer, in words
-use Rattle.std.specs.Prelude.{◌≡◌, ℕ, ◌<◌, ◌≤◌, false, List, length, take, Ok, Err, Result}
+use Rattle.std.specs.Prelude.{ℕ, ◌≤◌, List, length, take, Ok, Err, Result}
 use Rattle.costs.specs.Kind.{Kind}
 use Rattle.tariffs.specs.Meaning.{Meaning}
 use Rattle.sheets.specs.Book.{Book}
 use Rattle.model.specs.declared.point.Point.{Point}
 use Rattle.model.specs.Assignment.{standing, HasPair}
 use Rattle.model.specs.Front.{IsFront}
-use Rattle.model.specs.Limit.{IsBudget, IsDeadline, IsLowestUnquoted}
+use Rattle.model.specs.Limit.{IsBudget, IsDeadline, IsLowestUnquoted, TooDear, TooLong}
 use Rattle.model.specs.Plan.{IsPlan}
 use Rattle.planner.specs.declared.refusal.QuestionRefusal.{QuestionRefusal}
 use Rattle.planner.specs.declared.refusal.QuestionRefusal.TheVariants.{TooFewCells, TooShort, Unquoted, NoneWithin}
@@ -29,10 +29,9 @@ module _ {C : Type 0} (K : Kind C) (T : Meaning C) (book : Book) where
   LimitTells IsBest TooMuch bytes (Err (Unquoted task)) = IsLowestUnquoted T book task
   LimitTells IsBest TooMuch bytes (Err NoneWithin) = (p : Point C) → HasPair K T (standing book) p → TooMuch p
 
-  -- too much is what costs more than the budget
+  -- what a budget tells, and what a deadline does
   abbrev pub BudgetTells : C → List ℕ → Result (Point C) QuestionRefusal → Type 0
-  BudgetTells limit = LimitTells (IsBudget K T (standing book) limit) (λ p. K.at_most p.cost limit ≡ false)
+  BudgetTells limit = LimitTells (IsBudget K T (standing book) limit) (TooDear K limit)
 
-  -- too much is what takes longer than the deadline
   abbrev pub DeadlineTells : ℕ → List ℕ → Result (Point C) QuestionRefusal → Type 0
-  DeadlineTells limit = LimitTells (IsDeadline K T (standing book) limit) (λ p. limit < p.length)
+  DeadlineTells limit = LimitTells (IsDeadline K T (standing book) limit) (TooLong limit)

@@ -22,7 +22,7 @@ use model::{Cell, Point, PricedSheet};
 use sheets::{Call, Task};
 use tariffs::{MAX_MINUTES, Tariff};
 
-// Whether the task with a number stands and no machine quotes it.
+// Whether the task of this number stands and no machine quotes it.
 fn is_unquoted<T: Tariff>(timed: &TimedSheet<T>, number: usize, task: &Task) -> bool
     requires { task.now ≡ task_at (book timed.now.priced.sheet.now).tasks number }
     ensures { result ≡ unquoted (T.Tariff.meaning timed.now.priced.tariff.now) task.now }
