@@ -1,12 +1,14 @@
 //! A plain planner for comparison: the same cells, answers and plans as the proved one, without proofs.
 //!
-//! `plain CASE RUNS` takes the cases of `speed` and prints the same lines.
+//! `plain CASE RUNS` takes the cases of `speed` and prints the same lines. Compiled with `--cfg drops` it goes over a row only
+//! for the times at which the stage costs less than before, as the proved planner does; else for all its quoted times.
 
 use std::time::Instant;
 
 const MAX_MINUTES: u32 = 1_440;
 const MAX_TASKS: usize = 256;
 const STRUCK_BYTE: u8 = 255;
+const ONLY_DROPS: bool = cfg!(drops);
 
 // Costs
 
@@ -181,7 +183,7 @@ struct Quoted<'a, C> {
     machines: usize,
     /// By task and machine.
     quotes: Vec<Option<Quote<C>>>,
-    /// By stage: what it costs within each time quoted in it, by rising time.
+    /// By stage: what it costs within the times quoted in it, by rising time.
     stage_costs: Vec<Vec<Quote<C>>>,
     width: usize,
 }
@@ -220,7 +222,7 @@ impl<'a, C: Cost> Quoted<'a, C> {
             .map(|(number, _)| number)
     }
 
-    /// Reckons what a stage costs within each of its times: the tasks' quotes are taken by rising time, and each task keeps
+    /// Reckons what a stage costs within its times: the tasks' quotes are taken by rising time, and each task keeps
     /// its cheapest so far.
     fn add_stage(&mut self, stage: usize) {
         let mut offers = Vec::new();
@@ -240,7 +242,9 @@ impl<'a, C: Cost> Quoted<'a, C> {
             let joined = cheapest
                 .iter()
                 .try_fold(C::NEUTRAL, |sum, cost| cost.map(|cost| sum.join(cost)));
-            if let Some(cost) = joined {
+            if let Some(cost) = joined
+                && (!ONLY_DROPS || costs.last().is_none_or(|last: &Quote<C>| cost < last.cost))
+            {
                 let minutes = group[0].1.minutes;
                 costs.push(Quote { minutes, cost });
             }
