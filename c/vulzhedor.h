@@ -9,8 +9,8 @@
  *
  * A call writes to the memory and numbers handed over only what is said below, and keeps nothing. It allocates nothing,
  * holds no state, and may be made from several threads at once. It has its working memory on the stack:
- * vulzhedor_answer about 150 kB, vulzhedor_same_bargains about 220 kB, the others next to none. No proof says that the
- * stack suffices: a thread that calls one of these two should have 512 kB or more.
+ * vulzhedor_answer about 165 kB, vulzhedor_same_bargains about 252 kB, as `c/run --stack` measures, the others next to
+ * none. No proof says that the stack suffices: a thread that calls one of these two should have 512 kB or more.
  */
 #ifndef VULZHEDOR_H
 #define VULZHEDOR_H
