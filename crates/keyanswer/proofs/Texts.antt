@@ -1,7 +1,6 @@
 -- What is written of the answers of questions is the text of the key
-use Rattle.std.proofs.Common.{◌≡◌, ℕ, ◌≤◌, min, Bool, true, false, ltb, List, ◌++◌, length, take, drop, Ok, Err, sym, refl, ap, ◌∙◌, ⊎_elim, arith}
-use Rattle.std.specs.List.{flat_map}
-use Rattle.std.proofs.lemmas.List.{take_at, take_all, length-map, length-take}
+use Rattle.std.proofs.Common.{◌≡◌, ℕ, ◌≤◌, min, Bool, true, false, ltb, List, length, take, drop, Ok, Err, sym, refl, ap, ◌∙◌, ⊎_elim, arith}
+use Rattle.std.proofs.lemmas.List.{take_all, length-map, length-take}
 use Rattle.std.proofs.lemmas.Bool.{le-ltb, cases_lt}
 use Rattle.refusals.specs.Answer.{Answer, refused_if}
 use Rattle.costs.specs.Cents.{cents_kind, cents_text}
@@ -9,41 +8,16 @@ use Rattle.costs.specs.declared.cents.Cents.{Cents}
 use Rattle.tariffs.specs.Meaning.{Meaning}
 use Rattle.sheets.specs.Book.{Book, book}
 use Rattle.sheets.specs.declared.sheet.Sheet.{Sheet}
-use Rattle.texts.specs.Line.{line}
-use Rattle.texts.specs.RefusalLine.{refusal_words}
 use Rattle.model.specs.declared.cell.Cell.{Cell}
 use Rattle.model.specs.declared.point.Point.{Point}
 use Rattle.model.specs.Cell.{cells_needed}
-use Rattle.model.specs.Front.{front}
 use Rattle.model.specs.Plan.{plan}
-use Rattle.model.specs.Question.{front_answer, front_points, limit_answer, limit_bytes}
+use Rattle.model.specs.Question.{limit_answer, limit_bytes}
 use Rattle.keylines.specs.Plan.{result_text}
-use Rattle.keylines.specs.Point.{point_line}
 use Rattle.keylines.proofs.Machines.{machines_written}
-use Rattle.keyanswer.specs.Answer.{key_cells, key_points, text_of, limit_text, with_cells, front_lines, limit_lines}
-
--- what is written of a count of points, or of a refusal
-abbrev pub front_text : Answer ℕ → List (Point Cents) → List ℕ
-front_text (Ok count) points = flat_map (point_line cents_text) (take count points)
-front_text (Err refused) points = line (refusal_words refused)
+use Rattle.keyanswer.specs.Answer.{key_cells, text_of, limit_text, with_cells, limit_lines}
 
 module _ (T : Meaning Cents) (book : Book) where
-  written_points : (few short : Bool) (points : List (Point Cents)) →
-      let answer : Answer ℕ = refused_if few 7 (refused_if short 8 (Ok (length (front cents_kind T book)))) in
-      front_text answer (elim answer [ Ok n ↦ front cents_kind T book ++ drop n points | Err refused ↦ points ])
-      ≡ text_of (refused_if few 7 (refused_if short 8 (Ok (flat_map (point_line cents_text) (front cents_kind T book)))))
-  written_points true short points = refl
-  written_points false true points = refl
-  written_points false false points =
-      ap (flat_map (point_line cents_text)) (take_at (front cents_kind T book) (drop (length (front cents_kind T book)) points) (length (front cents_kind T book)) refl)
-
-  pub front_written : (cells : List (Cell Cents)) (points : List (Point Cents)) → length cells ≡ key_cells → length points ≡ key_points →
-      front_text (front_answer cents_kind T book cells points) (front_points cents_kind T book cells points) ≡ text_of (front_lines T book)
-  front_written cells points enough room =
-      written_points (ltb (length cells) (cells_needed T book)) (ltb (length points) (length (front cents_kind T book))) points
-      ∙ ap (λ n. text_of (refused_if (ltb n (cells_needed T book)) 7 (refused_if (ltb (length points) (length (front cents_kind T book))) 8 (Ok (flat_map (point_line cents_text) (front cents_kind T book)))))) enough
-      ∙ ap (λ n. text_of (with_cells T book (refused_if (ltb n (length (front cents_kind T book))) 8 (Ok (flat_map (point_line cents_text) (front cents_kind T book)))))) room
-
   written_limit : (few : Bool) (bytes : List ℕ) (result : Answer (Point Cents)) →
       limit_text book (refused_if few 7 result) (limit_bytes cents_kind T book (refused_if few 7 result) bytes)
       ≡ text_of (refused_if few 7 (limit_lines T book result))
