@@ -1,6 +1,5 @@
 -- The cheapest quote within an allowance, and what a loop over tasks joins to a stage's cost
-use Rattle.std.proofs.Common.{◌≡◌, ℕ, zero, suc, ◌<◌, ◌≤◌, Bool, true, false, cond, leb, ◌⊎◌, List, [], ◌∷◌, ◌++◌, Some, None, Option, sym, refl, ap, ◌∙◌, subst, inl, inr, le_antisymm, arith}
-use Rattle.std.specs.Option.{option_map}
+use Rattle.std.proofs.Common.{◌≡◌, ℕ, zero, suc, ◌<◌, ◌≤◌, Bool, true, false, cond, leb, ◌⊎◌, Some, None, Option, sym, refl, ap, ◌∙◌, subst, inl, inr, le_antisymm, arith}
 use Rattle.std.proofs.lemmas.Bool.{both_ways, leb-true, leb-false, cases_lt}
 use Rattle.costs.specs.Kind.{Kind, Laws}
 use Rattle.tariffs.specs.Meaning.{Meaning, Ranged}
@@ -8,7 +7,7 @@ use Rattle.tariffs.specs.declared.quote.Quote.{Quote}
 use Rattle.sheets.specs.declared.task.Task.{Task}
 use Rattle.model.specs.declared.choice.Choice.{Choice}
 use Rattle.model.specs.Assignment.{quote_of}
-use Rattle.model.specs.Allowance.{joined, cheaper_choice, choice_within, cheapest_below, cheapest, cost_within, IsCheapest, NoneWithin, CheapestIsCheapest, CheapestInWords}
+use Rattle.model.specs.Allowance.{cheaper_choice, choice_within, cheapest_below, cheapest, IsCheapest, NoneWithin, CheapestIsCheapest, CheapestInWords}
 use Rattle.model.proofs.Assignments.{below_count}
 use Rattle.model.proofs.LeastCosts.{at_most_refl}
 
@@ -140,22 +139,3 @@ module _ {C : Type 0} {K : Kind C} (L : Laws K) (T : Meaning C) where
 
 pub cheapest_is_cheapest : {C : Type 0} {K : Kind C} → Laws K → CheapestIsCheapest K
 cheapest_is_cheapest L T F = cheapest_in_words L T F
-
--- a loop over tasks joins one more at the end
-module _ {C : Type 0} {K : Kind C} (L : Laws K) where
-  pub joined_assoc : (o u v : Option C) → joined K (joined K o u) v ≡ joined K o (joined K u v)
-  joined_assoc None u v = refl
-  joined_assoc (Some x) None v = refl
-  joined_assoc (Some x) (Some y) None = refl
-  joined_assoc (Some x) (Some y) (Some z) = ap Some (L.associative x y z)
-
-  pub joined_neutral : (o : Option C) → joined K (Some K.neutral) o ≡ o
-  joined_neutral None = refl
-  joined_neutral (Some x) = ap Some (L.commutative K.neutral x ∙ L.identity x)
-
-  module _ (T : Meaning C) where
-    pub cost_within_append : (tasks others : List Task) (a : ℕ) → cost_within K T (tasks ++ others) a ≡ joined K (cost_within K T tasks a) (cost_within K T others a)
-    cost_within_append [] others a = sym (joined_neutral (cost_within K T others a))
-    cost_within_append (task ∷ tasks) others a =
-        ap (joined K (option_map (λ (choice : Choice C). choice.cost) (cheapest K T task a))) (cost_within_append tasks others a)
-        ∙ sym (joined_assoc (option_map (λ (choice : Choice C). choice.cost) (cheapest K T task a)) (cost_within K T tasks a) (cost_within K T others a))
