@@ -12,7 +12,7 @@ use Rattle.model.specs.Cell.{cells_needed}
 use Rattle.model.specs.Front.{front}
 use Rattle.model.specs.Question.{few_cells, filled, front_answer, front_points}
 use Rattle.model.proofs.Questions.{questions_keep_memory}
-use Rattle.planner.specs.Bargain.{same_points, few_for_both, short_yours, bargains_answer}
+use Rattle.planner.specs.Bargain.{same_points, few_for_either, second_too_short, bargains_answer}
 use Rattle.planner.proofs.FirstRow.{cells_filled, points_written}
 
 pub answered_long : (few short : Bool) (n given : ℕ) → few ≡ false → Ok given ≡ refused_if few 7 (refused_if short 8 (Ok n)) → (short ≡ false) × (given ≡ n)
@@ -25,7 +25,7 @@ module _ {C : Type 0} (K : Kind C) (T : Meaning C) (book : Book) (U : Meaning C)
   abbrev answer_by : Bool → Bool → Bool → Answer Bool
   answer_by few short long = refused_if few 7 (refused_if (short || long) 8 (Ok (same_points K (front K T book) (front K U other))))
 
-  module _ (enough : few_for_both K T book U other cells mine yours ≡ false) where
+  module _ (enough : few_for_either K T book U other cells mine yours ≡ false) where
     enough_mine : few_cells T book cells ≡ false
     enough_mine = (or_parts (few_cells T book cells) (few_cells U other cells) enough).0
 
@@ -55,4 +55,4 @@ module _ {C : Type 0} (K : Kind C) (T : Meaning C) (book : Book) (U : Meaning C)
             ap Ok (s ∙ ap₂ (same_points K)
             (ap₂ take long_mine.1 first_written ∙ take_at (front K T book) _ _ refl)
             (ap₂ take long_yours.1 second_written ∙ take_at (front K U other) _ _ refl))
-            ∙ sym (ap₂ (λ (p : Bool) (q : Bool). answer_by p q (short_yours K T book U other cells mine yours)) enough long_mine.0 ∙ ap (answer_by false false) long_yours.0)
+            ∙ sym (ap₂ (λ (p : Bool) (q : Bool). answer_by p q (second_too_short K T book U other cells mine yours)) enough long_mine.0 ∙ ap (answer_by false false) long_yours.0)

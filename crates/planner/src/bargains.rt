@@ -3,7 +3,7 @@ ghost use Rattle.std.specs.Prelude.{◌≡◌, length};
 ghost use Rattle.refusals.specs.Answer.{answer_of};
 ghost use Rattle.sheets.specs.Book.{book};
 ghost use Rattle.sheets.specs.History.{KnownFurther};
-ghost use Rattle.planner.specs.Bargain.{same_point, same_points, bargains_answer, bargains_cells, bargains_mine, bargains_yours, BargainsAgree, VerdictHolds};
+ghost use Rattle.planner.specs.Bargain.{same_point, same_points, bargains_answer, bargains_cells, bargains_first_points, bargains_second_points, BargainsAgree, VerdictHolds};
 ghost use Rattle.planner.specs.Refusal.{question_told};
 
 use crate::QuestionRefusal;
@@ -40,10 +40,22 @@ fn compare<T: Tariff, U: Tariff<Cost = T::Cost>>(
     first_points: &mut [Point<T::Cost>],
     second_points: &mut [Point<T::Cost>],
 ) -> Result<bool, QuestionRefusal>
-    ensures answer { answer_of question_told result ≡ bargains_answer T.Cost.Cost.kind (T.Tariff.meaning first.now.priced.tariff.now) (book first.now.priced.sheet.now) (U.Tariff.meaning second.now.priced.tariff.now) (book second.now.priced.sheet.now) cells.old first_points.old second_points.old }
-    ensures cells { cells.new ≡ bargains_cells T.Cost.Cost.kind (T.Tariff.meaning first.now.priced.tariff.now) (book first.now.priced.sheet.now) (U.Tariff.meaning second.now.priced.tariff.now) (book second.now.priced.sheet.now) cells.old first_points.old second_points.old }
-    ensures mine { first_points.new ≡ bargains_mine T.Cost.Cost.kind (T.Tariff.meaning first.now.priced.tariff.now) (book first.now.priced.sheet.now) (U.Tariff.meaning second.now.priced.tariff.now) (book second.now.priced.sheet.now) cells.old first_points.old second_points.old }
-    ensures yours { second_points.new ≡ bargains_yours T.Cost.Cost.kind (T.Tariff.meaning first.now.priced.tariff.now) (book first.now.priced.sheet.now) (U.Tariff.meaning second.now.priced.tariff.now) (book second.now.priced.sheet.now) cells.old first_points.old second_points.old }
+    ensures answer { answer_of question_told result ≡ bargains_answer T.Cost.Cost.kind
+        (T.Tariff.meaning first.now.priced.tariff.now) (book first.now.priced.sheet.now)
+        (U.Tariff.meaning second.now.priced.tariff.now) (book second.now.priced.sheet.now)
+        cells.old first_points.old second_points.old }
+    ensures cells { cells.new ≡ bargains_cells T.Cost.Cost.kind
+        (T.Tariff.meaning first.now.priced.tariff.now) (book first.now.priced.sheet.now)
+        (U.Tariff.meaning second.now.priced.tariff.now) (book second.now.priced.sheet.now)
+        cells.old first_points.old second_points.old }
+    ensures first_points { first_points.new ≡ bargains_first_points T.Cost.Cost.kind
+        (T.Tariff.meaning first.now.priced.tariff.now) (book first.now.priced.sheet.now)
+        (U.Tariff.meaning second.now.priced.tariff.now) (book second.now.priced.sheet.now)
+        cells.old first_points.old second_points.old }
+    ensures second_points { second_points.new ≡ bargains_second_points T.Cost.Cost.kind
+        (T.Tariff.meaning first.now.priced.tariff.now) (book first.now.priced.sheet.now)
+        (U.Tariff.meaning second.now.priced.tariff.now) (book second.now.priced.sheet.now)
+        cells.old first_points.old second_points.old }
 {
     check_cells(first, cells).and(check_cells(second, cells))?;
     let first_count = write_front(first, cells, first_points)?;
@@ -60,10 +72,22 @@ pub fn same_bargains<T: Tariff, U: Tariff<Cost = T::Cost>>(
     first_points: &mut [Point<T::Cost>],
     second_points: &mut [Point<T::Cost>],
 ) -> Result<bool, QuestionRefusal>
-    ensures answer { answer_of question_told result ≡ bargains_answer T.Cost.Cost.kind (T.Tariff.meaning first.now.tariff.now) (book first.now.sheet.now) (U.Tariff.meaning second.now.tariff.now) (book second.now.sheet.now) cells.old first_points.old second_points.old }
-    ensures cells { cells.new ≡ bargains_cells T.Cost.Cost.kind (T.Tariff.meaning first.now.tariff.now) (book first.now.sheet.now) (U.Tariff.meaning second.now.tariff.now) (book second.now.sheet.now) cells.old first_points.old second_points.old }
-    ensures mine { first_points.new ≡ bargains_mine T.Cost.Cost.kind (T.Tariff.meaning first.now.tariff.now) (book first.now.sheet.now) (U.Tariff.meaning second.now.tariff.now) (book second.now.sheet.now) cells.old first_points.old second_points.old }
-    ensures yours { second_points.new ≡ bargains_yours T.Cost.Cost.kind (T.Tariff.meaning first.now.tariff.now) (book first.now.sheet.now) (U.Tariff.meaning second.now.tariff.now) (book second.now.sheet.now) cells.old first_points.old second_points.old }
+    ensures answer { answer_of question_told result ≡ bargains_answer T.Cost.Cost.kind
+        (T.Tariff.meaning first.now.tariff.now) (book first.now.sheet.now)
+        (U.Tariff.meaning second.now.tariff.now) (book second.now.sheet.now)
+        cells.old first_points.old second_points.old }
+    ensures cells { cells.new ≡ bargains_cells T.Cost.Cost.kind
+        (T.Tariff.meaning first.now.tariff.now) (book first.now.sheet.now)
+        (U.Tariff.meaning second.now.tariff.now) (book second.now.sheet.now)
+        cells.old first_points.old second_points.old }
+    ensures first_points { first_points.new ≡ bargains_first_points T.Cost.Cost.kind
+        (T.Tariff.meaning first.now.tariff.now) (book first.now.sheet.now)
+        (U.Tariff.meaning second.now.tariff.now) (book second.now.sheet.now)
+        cells.old first_points.old second_points.old }
+    ensures second_points { second_points.new ≡ bargains_second_points T.Cost.Cost.kind
+        (T.Tariff.meaning first.now.tariff.now) (book first.now.sheet.now)
+        (U.Tariff.meaning second.now.tariff.now) (book second.now.sheet.now)
+        cells.old first_points.old second_points.old }
     ensures bargains { BargainsAgree T.Cost.Cost.kind (T.Tariff.meaning first.now.tariff.now) (U.Tariff.meaning second.now.tariff.now) }
     ensures verdict { VerdictHolds T.Cost.Cost.kind (T.Tariff.meaning first.now.tariff.now) first.now.sheet.now (U.Tariff.meaning second.now.tariff.now) second.now.sheet.now result }
     ensures known { (KnownFurther first.now.sheet.now Call.Front first.now.sheet.now) × (KnownFurther second.now.sheet.now Call.Front second.now.sheet.now) }

@@ -15,8 +15,8 @@ returns g c =
     rw (sym c.of-first.ensures, sym c.of-second.ensures) (record {
       answer = c.compare.ensures.answer;
       cells = c.compare.ensures.cells;
-      mine = c.compare.ensures.mine;
-      yours = c.compare.ensures.yours;
+      first_points = c.compare.ensures.first_points;
+      second_points = c.compare.ensures.second_points;
       bargains = bargains_agree laws T U F G;
       verdict = verdict_holds laws T U F G c.of-first.result.priced.sheet.now c.of-second.result.priced.sheet.now c.args.cells.now c.args.first_points.now c.args.second_points.now c.compare.result c.compare.ensures.answer;
       known = (known_further _ Front _ refl, known_further _ Front _ refl);
