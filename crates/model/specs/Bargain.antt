@@ -1,4 +1,7 @@
 -- When two sheets, each under its tariff, offer the same bargains
+--
+-- In words: `(x : A) → B` is "B for every x", `(x : A) × B` "B for some x", `A → B` "if A, then B", `A × B` "A and B",
+-- `A ⊎ B` "A or B", `A ↔ B` "A exactly where B", `A → ⊥` "not A"; `≡` is "equals", and `≢` "differs from".
 use Rattle.std.specs.Prelude.{◌≡◌, ℕ, ◌^◌, ◌<◌, ◌≤◌, Bool, true, ◌↔◌, ◌⊎◌, List, length, take, Ok, Err, ◌≢◌}
 use Rattle.refusals.specs.Answer.{Answer, Refused, plain, carrying}
 use Rattle.costs.specs.Kind.{Kind}
