@@ -2,7 +2,8 @@ use Rattle.std.proofs.Common.{refl, sym}
 use Rattle.sheets.specs.declared.call.Call.TheVariants.{Front}
 use Rattle.sheets.proofs.Histories.{known_further}
 use Rattle.cells.proofs.Laws.{laws_of}
-use Rattle.planner.proofs.Verdicts.{bargains_agree, verdict_holds}
+use Rattle.model.proofs.Bargains.{equal_fronts_mean_same_bargains}
+use Rattle.planner.proofs.Verdicts.{verdict_holds}
 use Rattle.planner.proofs.bargains.same_bargains.Goals as goal
 
 pub returns : goal.returns
@@ -15,9 +16,9 @@ returns g c =
     rw (sym c.of-first.ensures, sym c.of-second.ensures) (record {
       answer = c.compare.ensures.answer;
       cells = c.compare.ensures.cells;
-      mine = c.compare.ensures.mine;
-      yours = c.compare.ensures.yours;
-      bargains = bargains_agree laws T U F G;
+      first_points = c.compare.ensures.first_points;
+      second_points = c.compare.ensures.second_points;
+      bargains = equal_fronts_mean_same_bargains laws T U F G;
       verdict = verdict_holds laws T U F G c.of-first.result.priced.sheet.now c.of-second.result.priced.sheet.now c.args.cells.now c.args.first_points.now c.args.second_points.now c.compare.result c.compare.ensures.answer;
       known = (known_further _ Front _ refl, known_further _ Front _ refl);
     })
