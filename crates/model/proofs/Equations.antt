@@ -1,8 +1,8 @@
 -- The two equations
-use Rattle.std.proofs.Common.{◌≡◌, ℕ, ◌≤◌, max, Bool, true, false, ◌↔◌, List, [], ◌∷◌, map, Some, None, Ok, Err, Option, sym, refl, ap, ◌∙◌, subst, ap₂, zero-le, le_trans, le_refl, arith}
+use Rattle.std.proofs.Common.{◌≡◌, ℕ, ◌≤◌, max, Bool, true, false, ◌↔◌, List, [], ◌∷◌, map, Some, None, Ok, Err, Option, sym, refl, ap, ◌∙◌, subst, ap₂, inl, inr, zero-le, le_trans, le_refl, arith}
 use Rattle.std.specs.Option.{option_map}
 use Rattle.std.specs.Result.{result_ok}
-use Rattle.std.proofs.lemmas.Bool.{both_ways}
+use Rattle.std.proofs.lemmas.Bool.{both_ways, cases_Bool}
 use Rattle.refusals.specs.Answer.{Answer, plain}
 use Rattle.costs.specs.Kind.{Kind, Laws}
 use Rattle.tariffs.specs.Meaning.{Meaning, Ranged}
@@ -82,23 +82,33 @@ module _ {C : Type 0} {K : Kind C} (L : Laws K) (T : Meaning C) (F : Ranged T) w
               let k = some_cheapest L T F task t choice e in
               (k.quote.minutes, (choice.machine, k.quote, k.quoted, subst (λ (x : C). K.at_most x b ≡ true) (sym k.price) h, refl), k.allowed)
 
+  -- a stage is made within a limit and a number of minutes exactly where its cost within them is at most the limit
+  made_affordable : (tasks : List Task) (b : C) (t a : ℕ) → StageMade tasks b t → t ≤ a → affordable K (cost_within K T tasks a) b ≡ true
+  made_affordable tasks b t a m l =
+      let r = stage_reached_by L T F tasks a (stage_cost K T tasks m.0) (m.0, m.1, omega (arith, m.3, l), refl) in
+      subst (λ (o : Option C). affordable K o b ≡ true) (sym r.1) (L.transitive _ _ _ r.2 m.2)
+
+  affordable_made : (tasks : List Task) (b : C) (a : ℕ) → affordable K (cost_within K T tasks a) b ≡ true → (t : ℕ) × StageMade tasks b t × (t ≤ a)
+  affordable_made tasks b a = go (cost_within K T tasks a) refl
+    where
+      go : (o : Option C) → cost_within K T tasks a ≡ o → affordable K o b ≡ true → (t : ℕ) × StageMade tasks b t × (t ≤ a)
+      go None e h = absurd (both_ways false refl h)
+      go (Some c) e h =
+          let r = stage_reached L T F tasks a c e in
+          (stage_time T tasks r.0, (r.0, r.1, subst (λ (x : C). K.at_most x b ≡ true) r.3 h, refl), r.2)
+
   -- a stage's time
   made_least : (tasks : List Task) (b : C) (t : ℕ) → StageMade tasks b t → (u : ℕ) × IsLeastTime (StageMade tasks b) (Some u) × (u ≤ t)
-  made_least tasks b = least_found (StageMade tasks b) (λ a. affordable K (cost_within K T tasks a) b) to from
-    where
-      to : (t : ℕ) → StageMade tasks b t → affordable K (cost_within K T tasks t) b ≡ true
-      to t s =
-          let r = stage_reached_by L T F tasks t (stage_cost K T tasks s.0) (s.0, s.1, omega (arith, s.3), refl) in
-          subst (λ (o : Option C). affordable K o b ≡ true) (sym r.1) (L.transitive _ _ _ r.2 s.2)
+  made_least tasks b = least_found (StageMade tasks b) (λ a. affordable K (cost_within K T tasks a) b) (λ t m. made_affordable tasks b t t m (le_refl t)) (affordable_made tasks b)
 
-      from : (t : ℕ) → affordable K (cost_within K T tasks t) b ≡ true → (u : ℕ) × StageMade tasks b u × (u ≤ t)
-      from t = go (cost_within K T tasks t) refl
-        where
-          go : (o : Option C) → cost_within K T tasks t ≡ o → affordable K o b ≡ true → (u : ℕ) × StageMade tasks b u × (u ≤ t)
-          go None e h = absurd (both_ways false refl h)
-          go (Some c) e h =
-              let r = stage_reached L T F tasks t c e in
-              (stage_time T tasks r.0, (r.0, r.1, subst (λ (x : C). K.at_most x b ≡ true) r.3 h, refl), r.2)
+  made_defined : (tasks : List Task) (b : C) → (o : Option ℕ) × IsLeastTime (StageMade tasks b) o
+  made_defined tasks b = elim (cases_Bool (affordable K (cost_within K T tasks (greatest_time T tasks)) b)) [
+    | inl h ↦ (let m = affordable_made tasks b (greatest_time T tasks) h in let u = made_least tasks b m.0 m.1 in (Some u.0, u.1))
+    | inr h ↦ (
+      None,
+      λ t m. both_ways _ h (made_affordable tasks b t (greatest_time T tasks) m (let l = stage_time_at_most T F tasks m.0 in omega (arith, l, m.3))),
+    )
+  ]
 
   -- a way to share out makes an assignment, and each assignment is no faster than some way
   abbrev TaskParts : List Task → List (Part C) → Type 0
@@ -141,6 +151,9 @@ module _ {C : Type 0} {K : Kind C} (L : Laws K) (T : Meaning C) (F : Ranged T) w
   stage_time_made tasks b = same_least (TimeShared K (TaskTime K T) greatest tasks b) (StageMade tasks b)
       (λ t s. let m = made_of_parts tasks s.0 s.1 in (t, (m.0, m.1, L.transitive _ _ _ m.2 s.2, m.3 ∙ s.3), le_refl t))
       (λ t m. let s = parts_of_made tasks m.0 m.1 in (greatest (times s.0), (s.0, s.1, subst (λ (x : C). K.at_most x b ≡ true) (sym s.2) m.2, refl), omega (arith, s.3, m.3)))
+
+  stage_defined : (tasks : List Task) (b : C) → (o : Option ℕ) × StageTime K T tasks b o
+  stage_defined tasks b = let m = made_defined tasks b in (m.0, (stage_time_made tasks b m.0).1 m.1)
 
   -- the same of the stages
   abbrev StageParts : List (List Task) → List (Part C) → Type 0
@@ -272,6 +285,7 @@ pub limits_are_shared_out : {C : Type 0} {K : Kind C} → Laws K → LimitsAreSh
 limits_are_shared_out L T F calls = record {
   budget = λ limit. (budget_time_made L T F (standing (book_after calls)) limit _).1 (budget_made L T F (book_after calls) (book_sound calls) limit _ refl);
   deadline = λ limit. deadline_least L T F (book_after calls) (book_sound calls) limit _ refl;
+  stage_defined = stage_defined L T F;
   stage_at_once = stage_at_once L T F;
   at_once = at_once L T F;
   by_allowances = by_allowances L T F;

@@ -115,6 +115,8 @@ pub record SharedOut {C : Type 0} (K : Kind C) (T : Meaning C) (book : Book) : T
   -- a budget gives T(limit), a deadline gives C(limit), and refusals 9 and 10 mean that there is none
   pub budget : (limit : C) → BudgetTime K T (standing book) limit (option_map (λ p. p.length) (result_ok (budget_result K T book limit)))
   pub deadline : (limit : ℕ) → DeadlineCost K T (standing book) limit (option_map (λ p. p.cost) (result_ok (deadline_result K T book limit)))
+  -- every share of a stage has its T_j, a time or none
+  pub stage_defined : (tasks : List Task) (share : C) → (t : Option ℕ) × StageTime K T tasks share t
   -- the least of leasts is the least over all shares at once, for one stage and for all
   pub stage_at_once : (tasks : List Task) (share : C) (t : Option ℕ) → StageTime K T tasks share t ↔ StageTimeAtOnce K T tasks share t
   pub at_once : (stages : List (List Task)) (limit : C) (t : Option ℕ) → BudgetTime K T stages limit t ↔ BudgetTimeAtOnce K T stages limit t
