@@ -17,6 +17,7 @@ pub mod Loops
 pub mod LimitsInWords
 pub mod Shares
 pub mod Plans
+pub mod Equations
 pub mod Bargains
 pub mod Joins
 pub mod Questions

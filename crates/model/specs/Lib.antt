@@ -6,5 +6,6 @@ pub mod Cell
 pub mod Scan
 pub mod Limit
 pub mod Plan
+pub mod Equations
 pub mod Question
 pub mod Bargain

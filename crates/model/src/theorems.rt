@@ -4,9 +4,10 @@ ghost use Rattle.model.specs.Allowance.{CheapestIsCheapest, GreatestTimesAreQuot
 ghost use Rattle.model.specs.Assignment.{AssignmentsAreAll};
 ghost use Rattle.model.specs.Bargain.{EnoughMemoryIsAnswered, EqualFrontsMeanSameBargains};
 ghost use Rattle.model.specs.Cell.{CellsStandAtTheirPlaces, LeastCostsShareOutMinutes};
+ghost use Rattle.model.specs.Equations.{LimitsAreSharedOut};
 ghost use Rattle.model.specs.Front.{FrontListsUnbeatenPairs, FrontsWithoutStagesOrQuotes};
 ghost use Rattle.model.specs.Limit.{LimitsGiveBestPairs};
-ghost use Rattle.model.specs.Plan.{LimitsAreSharedOut, PlansGoByTheFirstList, StagesJoinAllCosts};
+ghost use Rattle.model.specs.Plan.{PlansGoByTheFirstList, StagesJoinAllCosts};
 ghost use Rattle.model.specs.Question.{QuestionsKeepMemory, RefusedQuestionsAlterNothing};
 ghost use Rattle.model.specs.Scan.{FrontIsWhereCostsDrop};
 
@@ -86,7 +87,7 @@ pub fn plans_go_by_the_first_list<C: Cost>()
     laws_hold::<C>();
 }
 
-// What a limit gives is the best over all ways to share the limit out among the stages.
+// What a limit gives is the best over all ways to share the limit out among stages and tasks: the two equations.
 pub fn limits_are_shared_out<C: Cost>()
     ensures { LimitsAreSharedOut C.Cost.kind }
 {

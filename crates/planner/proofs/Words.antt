@@ -13,18 +13,18 @@ use Rattle.model.specs.declared.point.Point.{Point}
 use Rattle.model.specs.Assignment.{standing, HasPair}
 use Rattle.model.specs.Front.{front, IsFront}
 use Rattle.model.specs.Limit.{budget_result, deadline_result, IsBudget, IsDeadline, IsLowestUnquoted, LimitsInWords, TooDear, TooLong}
-use Rattle.model.specs.Plan.{plan, allowances_for, byte_under, IsPlan, Planned, SharedOut}
+use Rattle.model.specs.Plan.{plan, allowances_for, byte_under, IsPlan, Planned}
 use Rattle.model.specs.Question.{few_cells, short_plan, limit_answer, limit_bytes}
 use Rattle.model.proofs.FrontsInWords.{front_in_words}
 use Rattle.model.proofs.LimitsInWords.{limits_give_best_pairs}
-use Rattle.model.proofs.Plans.{plans_go_by_the_first_list, limits_are_shared_out}
+use Rattle.model.proofs.Plans.{plans_go_by_the_first_list}
 use Rattle.planner.specs.declared.refusal.QuestionRefusal.{QuestionRefusal}
 use Rattle.planner.specs.declared.refusal.QuestionRefusal.TheVariants.{TooFewCells, TooShort, Unquoted, NoneWithin}
 use Rattle.planner.specs.Refusal.{question_told}
 use Rattle.planner.specs.Words.{HasPlan, LimitTells, BudgetTells, DeadlineTells}
 
 -- a refusal behind 7 and 8
-refused_behind : {A : Type 0} (few short : Bool) (result : Answer A) (refused : Refused) → 8 < refused.number → Err refused ≡ refused_if few 7 (refused_if short 8 result) → result ≡ Err refused
+pub refused_behind : {A : Type 0} (few short : Bool) (result : Answer A) (refused : Refused) → 8 < refused.number → Err refused ≡ refused_if few 7 (refused_if short 8 result) → result ≡ Err refused
 refused_behind true short result refused h e = let n : refused.number ≡ 7 = cc in absurd (omega arith)
 refused_behind false true result refused h e = let n : refused.number ≡ 8 = cc in absurd (omega arith)
 refused_behind false false result refused h e = sym e
@@ -49,9 +49,6 @@ module _ {C : Type 0} {K : Kind C} (laws : Laws K) (T : Meaning C) (ranged : Ran
 
   plans_of : (sheet : Sheet) → Planned K T (book sheet)
   plans_of = of_every_sheet (Planned K T) (plans_go_by_the_first_list laws T ranged)
-
-  pub limits_shared_out : (sheet : Sheet) → SharedOut K T (book sheet)
-  limits_shared_out = of_every_sheet (SharedOut K T) (limits_are_shared_out laws T ranged)
 
   -- the plan stands at the start of what was written
   has_plan : (b : Book) (p : Point C) (bytes after : List ℕ) → IsPlan K T b p (plan K T b p) → after ≡ plan K T b p ++ drop (length b.tasks) bytes → HasPlan K T b p after

@@ -2,7 +2,8 @@ use Rattle.std.proofs.Common.{refl, sym}
 use Rattle.sheets.specs.declared.call.Call.TheVariants.{Deadline}
 use Rattle.sheets.proofs.Histories.{known_further}
 use Rattle.cells.proofs.Laws.{laws_of}
-use Rattle.planner.proofs.Words.{deadline_tells, limits_shared_out}
+use Rattle.planner.proofs.Equations.{deadline_equation}
+use Rattle.planner.proofs.Words.{deadline_tells}
 use Rattle.planner.proofs.limits.deadline.Goals as goal
 
 pub returns : goal.returns
@@ -16,6 +17,6 @@ returns g c =
       cells = told.cells;
       bytes = told.bytes;
       words = deadline_tells laws T F c.of-timed.result.priced.sheet.now c.args.cells.now c.args.bytes.now c.answer_limit.new.bytes c.args.limit c.answer_limit.result told.answer told.bytes;
-      shared_out = limits_shared_out laws T F c.of-timed.result.priced.sheet.now;
+      equation = deadline_equation laws T F c.of-timed.result.priced.sheet.now c.args.cells.now c.args.bytes.now c.args.limit c.answer_limit.result told.answer;
       known = known_further _ Deadline _ refl;
     })
