@@ -12,11 +12,13 @@ pub mod Rows
 pub mod Scans
 pub mod FirstLists
 pub mod Unquoted
-pub mod FrontEnds
 pub mod Loops
 pub mod LimitsInWords
+pub mod Assigned
+pub mod FrontEnds
 pub mod Shares
 pub mod Plans
+pub mod FrontAnswering
 pub mod Bargains
 pub mod Joins
 pub mod Questions

@@ -5,6 +5,7 @@ ghost use Rattle.model.specs.Assignment.{AssignmentsAreAll};
 ghost use Rattle.model.specs.Bargain.{EnoughMemoryIsAnswered, EqualFrontsMeanSameBargains};
 ghost use Rattle.model.specs.Cell.{CellsStandAtTheirPlaces, LeastCostsShareOutMinutes};
 ghost use Rattle.model.specs.Front.{FrontListsUnbeatenPairs, FrontsWithoutStagesOrQuotes};
+ghost use Rattle.model.specs.FrontAnswers.{FrontsAnswerLimits};
 ghost use Rattle.model.specs.Limit.{LimitsGiveBestPairs};
 ghost use Rattle.model.specs.Plan.{LimitsAreSharedOut, PlansGoByTheFirstList, StagesJoinAllCosts};
 ghost use Rattle.model.specs.Question.{QuestionsKeepMemory, RefusedQuestionsAlterNothing};
@@ -36,10 +37,13 @@ pub fn front_lists_unbeaten_pairs<C: Cost>()
     laws_hold::<C>();
 }
 
-// Without stages the front is 0 minutes at the neutral cost; with a standing task that has no quote it is empty.
+// Without stages the front is 0 minutes at the neutral cost; it is empty exactly where a standing task has no quote, and
+// exactly where there is no assignment.
 pub fn fronts_without_stages_or_quotes<C: Cost>()
     ensures { FrontsWithoutStagesOrQuotes C.Cost.kind }
-{}
+{
+    laws_hold::<C>();
+}
 
 // The choice within an allowance is the cheapest, the lowest machine among equals.
 pub fn cheapest_is_cheapest<C: Cost>()
@@ -75,6 +79,14 @@ pub fn front_is_where_costs_drop<C: Cost>()
 // Budgets and deadlines, and their refusals, mean what the words say.
 pub fn limits_give_best_pairs<C: Cost>()
     ensures { LimitsGiveBestPairs C.Cost.kind }
+{
+    laws_hold::<C>();
+}
+
+// Below every pair there is a point of the front; a budget is answered by the first point within it, a deadline by the
+// last, and each is refused exactly where no point is within it.
+pub fn fronts_answer_limits<C: Cost>()
+    ensures { FrontsAnswerLimits C.Cost.kind }
 {
     laws_hold::<C>();
 }

@@ -9,3 +9,4 @@ pub mod SamePoints
 pub mod Compared
 pub mod Verdicts
 pub mod Words
+pub mod OffTheFront

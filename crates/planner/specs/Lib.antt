@@ -3,3 +3,4 @@ pub mod Row
 pub mod Limit
 pub mod Bargain
 pub mod Words
+pub mod OffTheFront

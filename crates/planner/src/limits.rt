@@ -9,6 +9,7 @@ ghost use Rattle.model.specs.Question.{limit_answer, limit_cells, limit_bytes, b
 ghost use Rattle.model.specs.Scan.{first_below};
 ghost use Rattle.cells.specs.Minutes.{task_at};
 ghost use Rattle.planner.specs.Limit.{result_of, limit_check, row_within};
+ghost use Rattle.planner.specs.OffTheFront.{BudgetOffTheFront, DeadlineOffTheFront};
 ghost use Rattle.planner.specs.Refusal.{question_told};
 ghost use Rattle.planner.specs.Row.{first_row};
 ghost use Rattle.planner.specs.Words.{BudgetTells, DeadlineTells};
@@ -121,6 +122,8 @@ pub fn budget<T: Tariff>(
     ensures cells { cells.new ≡ limit_cells T.Cost.Cost.kind (T.Tariff.meaning priced.now.tariff.now) (book priced.now.sheet.now) cells.old bytes.old }
     ensures bytes { bytes.new ≡ budget_bytes T.Cost.Cost.kind (T.Tariff.meaning priced.now.tariff.now) (book priced.now.sheet.now) limit cells.old bytes.old }
     ensures words { BudgetTells T.Cost.Cost.kind (T.Tariff.meaning priced.now.tariff.now) (book priced.now.sheet.now) limit bytes.new result }
+    ensures off_the_front { let meaning = T.Tariff.meaning priced.now.tariff.now in
+        BudgetOffTheFront T.Cost.Cost.kind meaning (book priced.now.sheet.now) limit result }
     ensures shared_out { SharedOut T.Cost.Cost.kind (T.Tariff.meaning priced.now.tariff.now) (book priced.now.sheet.now) }
     ensures known { KnownFurther priced.now.sheet.now Call.Budget priced.now.sheet.now }
 {
@@ -141,6 +144,8 @@ pub fn deadline<T: Tariff>(
     ensures cells { cells.new ≡ limit_cells T.Cost.Cost.kind (T.Tariff.meaning priced.now.tariff.now) (book priced.now.sheet.now) cells.old bytes.old }
     ensures bytes { bytes.new ≡ deadline_bytes T.Cost.Cost.kind (T.Tariff.meaning priced.now.tariff.now) (book priced.now.sheet.now) limit cells.old bytes.old }
     ensures words { DeadlineTells T.Cost.Cost.kind (T.Tariff.meaning priced.now.tariff.now) (book priced.now.sheet.now) limit bytes.new result }
+    ensures off_the_front { let meaning = T.Tariff.meaning priced.now.tariff.now in
+        DeadlineOffTheFront T.Cost.Cost.kind meaning (book priced.now.sheet.now) limit result }
     ensures shared_out { SharedOut T.Cost.Cost.kind (T.Tariff.meaning priced.now.tariff.now) (book priced.now.sheet.now) }
     ensures known { KnownFurther priced.now.sheet.now Call.Deadline priced.now.sheet.now }
 {

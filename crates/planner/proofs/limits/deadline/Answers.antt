@@ -3,6 +3,7 @@ use Rattle.sheets.specs.declared.call.Call.TheVariants.{Deadline}
 use Rattle.sheets.proofs.Histories.{known_further}
 use Rattle.cells.proofs.Laws.{laws_of}
 use Rattle.planner.proofs.Words.{deadline_tells, limits_shared_out}
+use Rattle.planner.proofs.OffTheFront.{deadline_off_the_front}
 use Rattle.planner.proofs.limits.deadline.Goals as goal
 
 pub returns : goal.returns
@@ -16,6 +17,7 @@ returns g c =
       cells = told.cells;
       bytes = told.bytes;
       words = deadline_tells laws T F c.of-timed.result.priced.sheet.now c.args.cells.now c.args.bytes.now c.answer_limit.new.bytes c.args.limit c.answer_limit.result told.answer told.bytes;
+      off_the_front = deadline_off_the_front laws T F c.of-timed.result.priced.sheet.now c.args.limit c.args.cells.now c.args.bytes.now c.answer_limit.result told.answer;
       shared_out = limits_shared_out laws T F c.of-timed.result.priced.sheet.now;
       known = known_further _ Deadline _ refl;
     })
