@@ -17,6 +17,7 @@ pub mod LimitsInWords
 pub mod Assigned
 pub mod FrontEnds
 pub mod Shares
+pub mod OnePlan
 pub mod Plans
 pub mod FrontAnswering
 pub mod Bargains

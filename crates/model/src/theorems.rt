@@ -91,7 +91,8 @@ pub fn fronts_answer_limits<C: Cost>()
     laws_hold::<C>();
 }
 
-// A plan goes by the first allowance list, and is an assignment of the length and cost that were answered.
+// The plan computed goes by the first allowance list, and is an assignment of the length and cost that were answered; no
+// other bytes do.
 pub fn plans_go_by_the_first_list<C: Cost>()
     ensures { PlansGoByTheFirstList C.Cost.kind }
 {
