@@ -12,12 +12,15 @@ pub mod Rows
 pub mod Scans
 pub mod FirstLists
 pub mod Unquoted
-pub mod FrontEnds
 pub mod Loops
 pub mod LimitsInWords
+pub mod Assigned
+pub mod FrontEnds
 pub mod Shares
+pub mod OnePlan
 pub mod Plans
 pub mod Equations
+pub mod FrontAnswering
 pub mod Bargains
 pub mod Joins
 pub mod Questions

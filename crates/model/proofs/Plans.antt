@@ -1,5 +1,5 @@
 -- Plans: they go by the first list that counts, and are assignments of the length and cost that were answered
-use Rattle.std.proofs.Common.{◌≡◌, ℕ, zero, suc, ◌+◌, ◌<◌, ◌≤◌, Bool, true, false, cond, List, [], ◌∷◌, map, length, get_or, Some, None, Option, sym, refl, ap, ◌∙◌, subst, ap₂, zero-le, le_trans, le_antisymm, arith}
+use Rattle.std.proofs.Common.{◌≡◌, ℕ, zero, suc, ◌+◌, ◌<◌, ◌≤◌, Bool, true, false, cond, ◌↔◌, List, [], ◌∷◌, map, length, get_or, Some, None, Ok, Option, sym, refl, ap, ◌∙◌, subst, ap₂, zero-le, le_trans, le_antisymm, arith}
 use Rattle.std.specs.List.{range_with_len, slice_get}
 use Rattle.std.specs.Option.{option_map}
 use Rattle.std.proofs.lemmas.List.FromFn.{length-map-range_with_len, get_or-map-range_with_len}
@@ -10,6 +10,7 @@ use Rattle.tariffs.specs.declared.quote.Quote.{Quote}
 use Rattle.sheets.specs.Book.{Book}
 use Rattle.sheets.specs.History.{Sound, book_after}
 use Rattle.sheets.specs.Tasks.{SoundTask, stands_in}
+use Rattle.sheets.specs.declared.call.Call.{Call}
 use Rattle.sheets.specs.declared.task.Task.{Task}
 use Rattle.sheets.proofs.Histories.{book_sound}
 use Rattle.model.specs.declared.choice.Choice.{Choice}
@@ -17,7 +18,7 @@ use Rattle.model.specs.declared.point.Point.{Point}
 use Rattle.model.specs.Lists.{In, here, later, Paired, total}
 use Rattle.model.specs.Assignment.{stage_tasks, standing, Quoted, IsAssignment, charge_of, stage_time, stage_cost, length_of, cost_of, pair_of, pairs, HasPair}
 use Rattle.model.specs.Allowance.{cheapest, cost_within, IsCheapest}
-use Rattle.model.specs.Limit.{IsBudget, IsDeadline}
+use Rattle.model.specs.Limit.{budget_result, deadline_result, IsBudget, IsDeadline}
 use Rattle.model.specs.Plan.{struck_byte, machine_or, list_cost, IsFirst, allowances_for, byte_under, plan, stage_machines, machines_of, IsPlan, PlansGoByTheFirstList}
 use Rattle.model.proofs.Assignments.{in_pairs, of_pairs, in_stage, of_stage}
 use Rattle.model.proofs.Fronts.{Best, same_point, no_worse_from, no_longer, no_dearer}
@@ -27,6 +28,7 @@ use Rattle.model.proofs.Rows.{best_drops}
 use Rattle.model.proofs.FirstLists.{joined_parts, first_list_first}
 use Rattle.model.proofs.LimitsInWords.{budget_words, deadline_words}
 use Rattle.model.proofs.Unquoted.{all_in}
+use Rattle.model.proofs.OnePlan.{one_plan}
 
 -- look-ups
 nth_map : {A B : Type 0} (f : A → B) (xs : List A) (n : ℕ) (x : A) → slice_get xs n ≡ Some x → slice_get (map f xs) n ≡ Some (f x)
@@ -205,11 +207,30 @@ module _ {C : Type 0} {K : Kind C} (L : Laws K) (T : Meaning C) where
         let e : q.cost ≡ p.cost = L.antisymmetric _ _ (no_dearer L q p n) (h.cheapest q hq (le_trans (no_longer L q p n) h.within)) in
         same_point q p (le_antisymm (no_longer L q p n) (h.shortest q hq e)) e
 
+-- the plan of a result is computed
+record Computed {C : Type 0} (K : Kind C) (T : Meaning C) (book : Book) : Type 0 where
+  pub budgets : (limit : C) (p : Point C) → budget_result K T book limit ≡ Ok p → IsPlan K T book p (plan K T book p)
+  pub deadlines : (limit : ℕ) (p : Point C) → deadline_result K T book limit ≡ Ok p → IsPlan K T book p (plan K T book p)
+
 module _ {C : Type 0} {K : Kind C} (L : Laws K) where
-  pub plans_go_by_the_first_list : PlansGoByTheFirstList K
-  plans_go_by_the_first_list T F calls =
+  plans_computed : (T : Meaning C) → Ranged T → (calls : List Call) → Computed K T (book_after calls)
+  plans_computed T F calls =
       let b = book_after calls in
       record {
         budgets = λ c p e. let h = (budget_words L T F b (book_sound calls) c p).1 e in plan_is L T F b (book_sound calls) p h.has (budget_best L T F (standing b) c p h);
         deadlines = λ d p e. let h = (deadline_words L T F b (book_sound calls) d p).1 e in plan_is L T F b (book_sound calls) p h.has (deadline_best L T F (standing b) d p h);
       }
+
+  pub plans_go_by_the_first_list : PlansGoByTheFirstList K
+  plans_go_by_the_first_list T F calls =
+      let computed = plans_computed T F calls in
+      record {
+        budgets = λ c p e. one p (computed.budgets c p e);
+        deadlines = λ d p e. one p (computed.deadlines d p e);
+      }
+    where
+      one : (p : Point C) → IsPlan K T (book_after calls) p (plan K T (book_after calls) p) → (bytes : List ℕ) → IsPlan K T (book_after calls) p bytes ↔ (bytes ≡ plan K T (book_after calls) p)
+      one p h bytes = (
+        (λ k. one_plan L T (book_after calls) p bytes (plan K T (book_after calls) p) k h),
+        (λ e. subst (IsPlan K T (book_after calls) p) (sym e) h),
+      )

@@ -1,5 +1,5 @@
 -- Allowance lists and plans
-use Rattle.std.specs.Prelude.{◌≡◌, ℕ, zero, suc, ◌+◌, ◌-◌, ◌<◌, Bool, true, false, cond, ◌⊎◌, List, [], ◌∷◌, map, length, Some, None, Ok, Option, slice_index}
+use Rattle.std.specs.Prelude.{◌≡◌, ℕ, zero, suc, ◌+◌, ◌-◌, ◌<◌, Bool, true, false, cond, ◌⊎◌, ◌↔◌, List, [], ◌∷◌, map, length, Some, None, Ok, Option, slice_index}
 use Rattle.std.specs.List.{range_with_len, slice_get}
 use Rattle.costs.specs.Kind.{Kind}
 use Rattle.tariffs.specs.Meaning.{Meaning, Ranged}
@@ -124,10 +124,12 @@ pub record IsPlan {C : Type 0} (K : Kind C) (T : Meaning C) (book : Book) (p : P
   pub assigns : IsAssignment T (standing book) (machines_of book bytes)
   pub pays : pair_of K T (standing book) (machines_of book bytes) ≡ p
 
--- every result of a budget or a deadline has its plan
+-- every result of a budget or a deadline has its plan, and no other bytes are one
 pub record Planned {C : Type 0} (K : Kind C) (T : Meaning C) (book : Book) : Type 0 where
-  pub budgets : (limit : C) (p : Point C) → budget_result K T book limit ≡ Ok p → IsPlan K T book p (plan K T book p)
-  pub deadlines : (limit : ℕ) (p : Point C) → deadline_result K T book limit ≡ Ok p → IsPlan K T book p (plan K T book p)
+  pub budgets : (limit : C) (p : Point C) → budget_result K T book limit ≡ Ok p →
+      (bytes : List ℕ) → IsPlan K T book p bytes ↔ (bytes ≡ plan K T book p)
+  pub deadlines : (limit : ℕ) (p : Point C) → deadline_result K T book limit ≡ Ok p →
+      (bytes : List ℕ) → IsPlan K T book p bytes ↔ (bytes ≡ plan K T book p)
 
 -- for every tariff in the cost kind and every history of calls
 abbrev pub PlansGoByTheFirstList : {C : Type 0} → Kind C → Type 0

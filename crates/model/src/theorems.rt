@@ -6,6 +6,7 @@ ghost use Rattle.model.specs.Bargain.{EnoughMemoryIsAnswered, EqualFrontsMeanSam
 ghost use Rattle.model.specs.Cell.{CellsStandAtTheirPlaces, LeastCostsShareOutMinutes};
 ghost use Rattle.model.specs.Equations.{LimitsAreSharedOut};
 ghost use Rattle.model.specs.Front.{FrontListsUnbeatenPairs, FrontsWithoutStagesOrQuotes};
+ghost use Rattle.model.specs.FrontAnswers.{FrontsAnswerLimits};
 ghost use Rattle.model.specs.Limit.{LimitsGiveBestPairs};
 ghost use Rattle.model.specs.Plan.{PlansGoByTheFirstList, StagesJoinAllCosts};
 ghost use Rattle.model.specs.Question.{QuestionsKeepMemory, RefusedQuestionsAlterNothing};
@@ -37,10 +38,13 @@ pub fn front_lists_unbeaten_pairs<C: Cost>()
     laws_hold::<C>();
 }
 
-// Without stages the front is 0 minutes at the neutral cost; with a standing task that has no quote it is empty.
+// Without stages the front is 0 minutes at the neutral cost; it is empty exactly where a standing task has no quote, and
+// exactly where there is no assignment.
 pub fn fronts_without_stages_or_quotes<C: Cost>()
     ensures { FrontsWithoutStagesOrQuotes C.Cost.kind }
-{}
+{
+    laws_hold::<C>();
+}
 
 // The choice within an allowance is the cheapest, the lowest machine among equals.
 pub fn cheapest_is_cheapest<C: Cost>()
@@ -80,7 +84,16 @@ pub fn limits_give_best_pairs<C: Cost>()
     laws_hold::<C>();
 }
 
-// A plan goes by the first allowance list, and is an assignment of the length and cost that were answered.
+// Below every pair there is a point of the front; a budget is answered by the first point within it, a deadline by the
+// last, and each is refused exactly where no point is within it.
+pub fn fronts_answer_limits<C: Cost>()
+    ensures { FrontsAnswerLimits C.Cost.kind }
+{
+    laws_hold::<C>();
+}
+
+// The plan computed goes by the first allowance list, and is an assignment of the length and cost that were answered; no
+// other bytes do.
 pub fn plans_go_by_the_first_list<C: Cost>()
     ensures { PlansGoByTheFirstList C.Cost.kind }
 {

@@ -10,3 +10,4 @@ pub mod Compared
 pub mod Verdicts
 pub mod Words
 pub mod Equations
+pub mod OffTheFront

@@ -4,3 +4,4 @@ pub mod Limit
 pub mod Bargain
 pub mod Words
 pub mod Equations
+pub mod OffTheFront

@@ -9,6 +9,7 @@ ghost use Rattle.model.specs.Scan.{first_below};
 ghost use Rattle.cells.specs.Minutes.{task_at};
 ghost use Rattle.planner.specs.Equations.{BudgetEquation, BudgetEquationAtOnce, DeadlineEquation};
 ghost use Rattle.planner.specs.Limit.{result_of, limit_check, row_within};
+ghost use Rattle.planner.specs.OffTheFront.{BudgetOffTheFront, DeadlineOffTheFront};
 ghost use Rattle.planner.specs.Refusal.{question_told};
 ghost use Rattle.planner.specs.Row.{first_row};
 ghost use Rattle.planner.specs.Words.{BudgetTells, DeadlineTells};
@@ -121,6 +122,8 @@ pub fn budget<T: Tariff>(
     ensures cells { cells.new ≡ limit_cells T.Cost.Cost.kind (T.Tariff.meaning priced.now.tariff.now) (book priced.now.sheet.now) cells.old bytes.old }
     ensures bytes { bytes.new ≡ budget_bytes T.Cost.Cost.kind (T.Tariff.meaning priced.now.tariff.now) (book priced.now.sheet.now) limit cells.old bytes.old }
     ensures words { BudgetTells T.Cost.Cost.kind (T.Tariff.meaning priced.now.tariff.now) (book priced.now.sheet.now) limit bytes.new result }
+    ensures off_the_front { let meaning = T.Tariff.meaning priced.now.tariff.now in
+        BudgetOffTheFront T.Cost.Cost.kind meaning (book priced.now.sheet.now) limit result }
     ensures equation { let K = T.Cost.Cost.kind in
         let M = T.Tariff.meaning priced.now.tariff.now in
         BudgetEquation K M (book priced.now.sheet.now) limit result }
@@ -146,6 +149,8 @@ pub fn deadline<T: Tariff>(
     ensures cells { cells.new ≡ limit_cells T.Cost.Cost.kind (T.Tariff.meaning priced.now.tariff.now) (book priced.now.sheet.now) cells.old bytes.old }
     ensures bytes { bytes.new ≡ deadline_bytes T.Cost.Cost.kind (T.Tariff.meaning priced.now.tariff.now) (book priced.now.sheet.now) limit cells.old bytes.old }
     ensures words { DeadlineTells T.Cost.Cost.kind (T.Tariff.meaning priced.now.tariff.now) (book priced.now.sheet.now) limit bytes.new result }
+    ensures off_the_front { let meaning = T.Tariff.meaning priced.now.tariff.now in
+        DeadlineOffTheFront T.Cost.Cost.kind meaning (book priced.now.sheet.now) limit result }
     ensures equation { let K = T.Cost.Cost.kind in
         let M = T.Tariff.meaning priced.now.tariff.now in
         DeadlineEquation K M (book priced.now.sheet.now) limit result }

@@ -4,6 +4,7 @@ use Rattle.sheets.proofs.Histories.{known_further}
 use Rattle.cells.proofs.Laws.{laws_of}
 use Rattle.planner.proofs.Equations.{budget_equation, budget_equation_at_once}
 use Rattle.planner.proofs.Words.{budget_tells}
+use Rattle.planner.proofs.OffTheFront.{budget_off_the_front}
 use Rattle.planner.proofs.limits.budget.Goals as goal
 
 pub returns : goal.returns
@@ -19,5 +20,6 @@ returns g c =
       words = budget_tells laws T F c.of-timed.result.priced.sheet.now c.args.cells.now c.args.bytes.now c.answer_limit.new.bytes c.args.limit c.answer_limit.result told.answer told.bytes;
       equation = budget_equation laws T F c.of-timed.result.priced.sheet.now c.args.cells.now c.args.bytes.now c.args.limit c.answer_limit.result told.answer;
       at_once = budget_equation_at_once laws T F c.of-timed.result.priced.sheet.now c.args.cells.now c.args.bytes.now c.args.limit c.answer_limit.result told.answer;
+      off_the_front = budget_off_the_front laws T F c.of-timed.result.priced.sheet.now c.args.limit c.args.cells.now c.args.bytes.now c.answer_limit.result told.answer;
       known = known_further _ Budget _ refl;
     })

@@ -4,6 +4,7 @@ use Rattle.sheets.proofs.Histories.{known_further}
 use Rattle.cells.proofs.Laws.{laws_of}
 use Rattle.planner.proofs.Equations.{deadline_equation}
 use Rattle.planner.proofs.Words.{deadline_tells}
+use Rattle.planner.proofs.OffTheFront.{deadline_off_the_front}
 use Rattle.planner.proofs.limits.deadline.Goals as goal
 
 pub returns : goal.returns
@@ -18,5 +19,6 @@ returns g c =
       bytes = told.bytes;
       words = deadline_tells laws T F c.of-timed.result.priced.sheet.now c.args.cells.now c.args.bytes.now c.answer_limit.new.bytes c.args.limit c.answer_limit.result told.answer told.bytes;
       equation = deadline_equation laws T F c.of-timed.result.priced.sheet.now c.args.cells.now c.args.bytes.now c.args.limit c.answer_limit.result told.answer;
+      off_the_front = deadline_off_the_front laws T F c.of-timed.result.priced.sheet.now c.args.limit c.args.cells.now c.args.bytes.now c.answer_limit.result told.answer;
       known = known_further _ Deadline _ refl;
     })
