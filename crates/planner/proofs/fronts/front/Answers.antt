@@ -5,7 +5,7 @@ use Rattle.planner.proofs.fronts.front.Goals as goal
 
 pub returns : goal.returns
 returns g c =
-    rw (sym c.of-timed.ensures) (record {
+    rw (sym c.of-timed.ensures.priced) (record {
       answer = c.write_front.ensures.answer;
       cells = c.write_front.ensures.cells;
       points = c.write_front.ensures.points;
