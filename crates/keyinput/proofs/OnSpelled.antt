@@ -10,7 +10,7 @@ use Rattle.tariffs.specs.declared.line.Line.{Line}
 use Rattle.tariffs.specs.Card.{lines_of, add_answer, lines_after}
 use Rattle.tariffs.specs.Line.{line, line_in_range}
 use Rattle.tariffs.specs.Ranges.{length_lines}
-use Rattle.tariffs.proofs.SameLine.{same_line}
+use Rattle.tariffs.specs.Same.{same_line}
 use Rattle.sheets.specs.Book.{Book, book}
 use Rattle.keyfile.specs.Card.{line_in, card_in}
 use Rattle.keyfile.specs.Files.{IsReadAgain}

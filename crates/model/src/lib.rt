@@ -3,6 +3,7 @@
 
 mod cell;
 mod choice;
+mod plain;
 mod point;
 mod priced;
 mod theorems;

@@ -10,7 +10,7 @@ returns g c =
     let T = g.T.Tariff.meaning c.of-timed.result.priced.tariff.now in
     let F = g.T.Tariff.ranged c.of-timed.result.priced.tariff.now in
     let laws = laws_of g.met.T.Cost.Cost in
-    rw (sym c.of-timed.ensures) (record {
+    rw (sym c.of-timed.ensures.priced) (record {
       answer = c.write_front.ensures.answer;
       cells = c.write_front.ensures.cells;
       points = c.write_front.ensures.points;

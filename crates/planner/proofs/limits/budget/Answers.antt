@@ -13,7 +13,7 @@ returns g c =
     let F = g.T.Tariff.ranged c.of-timed.result.priced.tariff.now in
     let laws = laws_of g.met.T.Cost.Cost in
     let told = c.answer_limit.ensures in
-    rw (sym c.of-timed.ensures) (record {
+    rw (sym c.of-timed.ensures.priced) (record {
       answer = told.answer;
       cells = told.cells;
       bytes = told.bytes;
