@@ -104,13 +104,13 @@ pub fn refused_questions_alter_nothing<C: Cost>()
     ensures { RefusedQuestionsAlterNothing C.Cost.kind }
 {}
 
-// With memory enough, a question answers what book, tariff and limit decide.
+// In memory that suffices, a question gives what book, tariff and limit decide.
 pub fn enough_memory_is_answered<C: Cost>()
     ensures { EnoughMemoryIsAnswered C.Cost.kind }
 {}
 
-// Two sheets, each under its tariff, have equal fronts exactly when each assignment of either is matched by the other,
-// and exactly when every budget and every deadline gets the same answer.
+// What the questions on two sheets, each under its tariff, give is what the words say; and the sheets have equal fronts
+// exactly when each assignment of either is matched by the other, and exactly when every limit gets the same answer.
 pub fn equal_fronts_mean_same_bargains<C: Cost>()
     ensures { EqualFrontsMeanSameBargains C.Cost.kind }
 {

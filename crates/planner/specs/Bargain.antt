@@ -1,18 +1,13 @@
 -- The question whether two sheets, each under its tariff, offer the same bargains
-use Rattle.std.specs.Prelude.{◌≡◌, Bool, true, false, cond, ◌&&◌, ◌||◌, ◌↔◌, List, [], ◌∷◌, ◌++◌, length, drop, Ok, Err, Result, ◌==◌, nat_lt}
+use Rattle.std.specs.Prelude.{Bool, true, false, cond, ◌&&◌, ◌||◌, List, [], ◌∷◌, ◌++◌, length, drop, Ok, ◌==◌, nat_lt}
 use Rattle.refusals.specs.Answer.{Answer, refused_if}
 use Rattle.costs.specs.Kind.{Kind}
 use Rattle.tariffs.specs.Meaning.{Meaning}
-use Rattle.sheets.specs.declared.call.Call.{Call}
-use Rattle.sheets.specs.declared.sheet.Sheet.{Sheet}
-use Rattle.sheets.specs.Book.{Book, book}
-use Rattle.sheets.specs.History.{book_after}
+use Rattle.sheets.specs.Book.{Book}
 use Rattle.model.specs.declared.cell.Cell.{Cell}
 use Rattle.model.specs.declared.point.Point.{Point}
 use Rattle.model.specs.Front.{front}
 use Rattle.model.specs.Question.{few_cells, filled}
-use Rattle.model.specs.Bargain.{Memory, Enough, Matched, SameAnswers, SameBargains}
-use Rattle.planner.specs.declared.refusal.QuestionRefusal.{QuestionRefusal}
 
 module _ {C : Type 0} (K : Kind C) where
   -- the same length, and costs at most each other
@@ -28,7 +23,8 @@ module _ {C : Type 0} (K : Kind C) where
 
 -- what the question answers and leaves, by the book of the first sheet under T and that of the second under U, with one
 -- memory of cells for both and points for each
-module _ {C : Type 0} (K : Kind C) (T : Meaning C) (first : Book) (U : Meaning C) (second : Book) (cells : List (Cell C)) (first_points second_points : List (Point C)) where
+module _ {C : Type 0} (K : Kind C) (T : Meaning C) (first : Book) (U : Meaning C) (second : Book)
+    (cells : List (Cell C)) (first_points second_points : List (Point C)) where
   -- fewer cells than either front needs
   abbrev pub few_for_either : Bool
   few_for_either = few_cells T first cells || few_cells U second cells
@@ -49,7 +45,10 @@ module _ {C : Type 0} (K : Kind C) (T : Meaning C) (first : Book) (U : Meaning C
 
   -- the cells are filled for the first sheet, and then, unless its points were too short, for the second
   abbrev pub bargains_cells : List (Cell C)
-  bargains_cells = cond few_for_either cells (cond first_too_short (filled K T first cells) (filled K U second (filled K T first cells)))
+  bargains_cells =
+      cond few_for_either cells
+      (cond first_too_short (filled K T first cells)
+      (filled K U second (filled K T first cells)))
 
   -- each front is written where it fits; the second only if the first did
   abbrev pub bargains_first_points : List (Point C)
@@ -61,22 +60,3 @@ module _ {C : Type 0} (K : Kind C) (T : Meaning C) (first : Book) (U : Meaning C
   bargains_second_points =
       cond (few_for_either || (first_too_short || second_too_short)) second_points
       (front K U second ++ drop (length (front K U second)) second_points)
-
--- the statement for two tariffs: for every two histories of calls and memory enough, equal fronts, matched assignments and
--- same answers under every limit come to one
-abbrev pub BargainsAgree : {C : Type 0} → Kind C → Meaning C → Meaning C → Type 0
-BargainsAgree {C} K T U =
-    (calls others : List Call) (mine yours : Memory C)
-    → Enough K T (book_after calls) mine → Enough K U (book_after others) yours
-    → SameBargains K T (book_after calls) mine U (book_after others) yours
-
--- a verdict on two books: equal exactly when each assignment of either has one of the other that is no longer and no
--- dearer, and exactly when every budget and every deadline is answered alike
-pub record Verdict {C : Type 0} (K : Kind C) (T : Meaning C) (book : Book) (U : Meaning C) (other : Book) (equal : Bool) : Type 0 where
-  pub by_assignments : (equal ≡ true) ↔ (Matched K T book U other × Matched K U other T book)
-  pub by_limits : (mine yours : Memory C) → Enough K T book mine → Enough K U other yours → (equal ≡ true) ↔ SameAnswers K T book mine U other yours
-
--- the verdict of a call on two sheets
-abbrev pub VerdictHolds : {C : Type 0} → Kind C → Meaning C → Sheet → Meaning C → Sheet → Result Bool QuestionRefusal → Type 0
-VerdictHolds K T sheet U other (Ok equal) = Verdict K T (book sheet) U (book other) equal
-VerdictHolds K T sheet U other (Err refusal) = Unit {0}

@@ -1,7 +1,8 @@
 use Rattle.std.proofs.Common.{Ok}
 use Rattle.sheets.specs.Book.{book}
 use Rattle.cells.proofs.Laws.{laws_of}
-use Rattle.planner.proofs.Verdicts.{bargains_agree, verdict_holds}
+use Rattle.model.proofs.Bargains.{equal_fronts_mean_same_bargains}
+use Rattle.planner.proofs.Verdicts.{verdict_holds}
 use Rattle.planner.proofs.BetterTold.{same_told}
 use Rattle.planner.proofs.bargains.same_bargains.Goals as goal
 
@@ -22,7 +23,7 @@ returns g c =
       cells = c.in_ok-better.ensures.cells;
       first_points = c.in_ok-better.ensures.first_points;
       second_points = c.in_ok-better.ensures.second_points;
-      bargains = bargains_agree laws T U F G;
+      bargains = equal_fronts_mean_same_bargains laws T U F G;
       verdict = verdict_holds laws T U F G c.args.first.now.sheet.now c.args.second.now.sheet.now cells first_points second_points (Ok c.is_none.result) answer;
       known = c.in_ok-better.ensures.known;
     }
@@ -31,4 +32,4 @@ pub returns-in_err-better-clause-bargains : goal.returns-in_err-better-clause-ba
 returns-in_err-better-clause-bargains g c =
     let T = c.args.first.now.tariff.now in
     let U = c.args.second.now.tariff.now in
-    bargains_agree (laws_of g.met.T.Cost.Cost) (g.T.Tariff.meaning T) (g.U.Tariff.meaning U) (g.T.Tariff.ranged T) (g.U.Tariff.ranged U)
+    equal_fronts_mean_same_bargains (laws_of g.met.T.Cost.Cost) (g.T.Tariff.meaning T) (g.U.Tariff.meaning U) (g.T.Tariff.ranged T) (g.U.Tariff.ranged U)
