@@ -86,7 +86,7 @@ fn compare<T: Tariff, U: Tariff<Cost = T::Cost>>(
 /// # Errors
 ///
 /// `TooFewCells` where there are fewer cells than either front needs, and then nothing is altered; `TooShort` where either
-/// front's points are too short for it. `docs/RULES.md`, "The same bargains", says what is altered then.
+/// front's points are too short for it. docs/RULES.md, "The same bargains", says what is altered then.
 pub fn better_bargain<T: Tariff, U: Tariff<Cost = T::Cost>>(
     first: &PricedSheet<T>,
     second: &PricedSheet<U>,
