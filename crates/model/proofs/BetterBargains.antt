@@ -1,5 +1,5 @@
 -- The better bargain of two sheets: in words, and on their fronts
-use Rattle.std.proofs.Common.{◌≡◌, ◌<◌, ◌≤◌, Bool, true, false, cond, ◌⊎◌, ◌↔◌, List, [], ◌∷◌, Some, None, filter, Option, sym, refl, ap, ◌∙◌, subst, ap₂, inl, inr, le_antisymm, arith}
+use Rattle.std.proofs.Common.{◌≡◌, ◌<◌, Bool, true, false, cond, ◌⊎◌, ◌↔◌, List, [], ◌∷◌, Some, None, filter, Option, sym, refl, ap, ◌∙◌, subst, ap₂, inl, inr, le_antisymm, arith}
 use Rattle.std.proofs.lemmas.Bool.{both_ways, cases_Bool, cases_lt, not-true, not_from_false}
 use Rattle.costs.specs.Kind.{Kind, Laws}
 use Rattle.tariffs.specs.Meaning.{Meaning, Ranged}
@@ -11,8 +11,7 @@ use Rattle.model.specs.Lists.{In, here, later, any, least}
 use Rattle.model.specs.Assignment.{standing, pairs}
 use Rattle.model.specs.Front.{no_worse, unbeaten, front_of, front, Rising}
 use Rattle.model.specs.Limit.{shorter_then_cheaper}
-use Rattle.model.specs.Bargain.{Matched}
-use Rattle.model.specs.Better.{is_unmatched, sooner, best_unmatched, better, Unmatched, IsBetter, first_difference, BetterInWords, BetterBargainsAreShown}
+use Rattle.model.specs.Better.{is_unmatched, sooner, best_unmatched, better, Unmatched, IsBetter, first_difference, BetterBargainsAreShown}
 use Rattle.model.proofs.Lists.{of_cons, in_kept_by, of_kept_by, any_false, any_absent, of_any}
 use Rattle.model.proofs.Leasts.{Least, least_is, least_unique, least_none}
 use Rattle.model.proofs.Assignments.{in_pairs, of_pairs}
