@@ -25,3 +25,4 @@ pub mod Bargains
 pub mod Joins
 pub mod Questions
 pub mod CostSteps
+pub mod BetterBargains

@@ -10,3 +10,4 @@ pub mod Plan
 pub mod Equations
 pub mod Question
 pub mod Bargain
+pub mod Better
