@@ -13,7 +13,7 @@ returns g c =
     let F = g.T.Tariff.ranged c.of-first.result.priced.tariff.now in
     let G = g.U.Tariff.ranged c.of-second.result.priced.tariff.now in
     let laws = laws_of g.met.T.Cost.Cost in
-    rw (sym c.of-first.ensures, sym c.of-second.ensures) (record {
+    rw (sym c.of-first.ensures.priced, sym c.of-second.ensures.priced) (record {
       answer = c.compare.ensures.answer;
       cells = c.compare.ensures.cells;
       first_points = c.compare.ensures.first_points;
