@@ -6,7 +6,9 @@ mod compare;
 mod memory;
 mod priced;
 mod refusal;
+mod whole;
 
 pub use answer::{INPUT_BYTES, TEXT_BYTES, answer_key};
 pub use compare::compare_batches;
 pub use refusal::CompareRefusal;
+pub use whole::answer_to;
