@@ -1,1 +1,2 @@
 pub mod OnStreams
+pub mod OnVerdicts
