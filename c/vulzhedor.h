@@ -1,5 +1,5 @@
 /*
- * Vulzhedor: charges, quotes, answers to inputs, and whether two inputs offer the same bargains.
+ * Vulzhedor: charges, quotes, answers to inputs, whether two inputs offer the same bargains, and which has the better one.
  *
  * `rt lib` in crates/capi proves these functions and writes out/libcapi.a there. docs/RULES.md has the rules, the form
  * of an input and every refusal.
@@ -9,8 +9,9 @@
  *
  * A call writes to the memory and numbers handed over only what is said below, and keeps nothing. It allocates nothing,
  * holds no state, and may be made from several threads at once. It has its working memory on the stack:
- * vulzhedor_answer about 165 kB, vulzhedor_same_bargains about 252 kB, as `c/run --stack` measures, the others next to
- * none. No proof says that the stack suffices: a thread that calls one of these two should have 512 kB or more.
+ * vulzhedor_answer about 165 kB, vulzhedor_same_bargains and vulzhedor_better_bargain about 252 kB each, as
+ * `c/run --stack` measures, the others next to none. No proof says that the stack suffices: a thread that calls one of
+ * these three should have 512 kB or more.
  */
 #ifndef VULZHEDOR_H
 #define VULZHEDOR_H
@@ -79,6 +80,19 @@ uint32_t vulzhedor_answer(const uint8_t *input, size_t input_length, uint8_t *te
  */
 uint32_t vulzhedor_same_bargains(const uint8_t *first, size_t first_length, const uint8_t *second, size_t second_length,
                                  uint32_t *equal, uint32_t *about, uint64_t *carried);
+
+/*
+ * Which of two inputs, a card and a sheet each with nothing behind them, has the better bargain: a pair of length and cost
+ * that an assignment of that one has, and no assignment of the other is as good as, that is no longer and no dearer. It is
+ * the shortest such pair of either and, of that length, the cheapest.
+ *
+ * Returns 0 with `better` written: 1 for the first, 2 for the second, with `length` in minutes and `cost` in cents of the
+ * pair written; or 0 where both offer the same bargains, and then `length` and `cost` keep what they held. `about` and
+ * `carried` keep what they held. Returns the number of a refusal with `about` and `carried` written as
+ * vulzhedor_same_bargains writes them, and then the other three keep what they held.
+ */
+uint32_t vulzhedor_better_bargain(const uint8_t *first, size_t first_length, const uint8_t *second, size_t second_length,
+                                  uint32_t *better, uint32_t *length, uint64_t *cost, uint32_t *about, uint64_t *carried);
 
 #ifdef __cplusplus
 }

@@ -19,7 +19,7 @@ fits_in most text memory (Err refusal) e short room = by (ltb (length memory) (l
     by false h e' = cc
 
 -- how long the line of a refusal is
-three_digits : (n : ℕ) → n < 256 → length (decimal n) ≤ 3
+pub three_digits : (n : ℕ) → n < 256 → length (decimal n) ≤ 3
 three_digits n small = length-decimal-le 3 n (omega arith) (omega arith) (omega arith)
 
 pub twenty_digits : (n : ℕ) → n < 2 ^ 64 → length (decimal n) ≤ 20
