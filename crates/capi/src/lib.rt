@@ -4,6 +4,7 @@
 
 mod answer;
 mod bargains;
+mod by_place;
 mod charge;
 mod quote;
 mod status;
