@@ -23,7 +23,11 @@
 extern "C" {
 #endif
 
-/* What a call returns: 0, 255 or the number of a refusal. Refusals 9, 10 and 14 stand in the text of an answer only. */
+/*
+ * What a call returns: 0, 255 or the number of a refusal. A quote returns 0, 3, 5 or 255; a comparison 0, 1, 3, 4, 5, 7, 8,
+ * 11, 12 or 13. An answer returns 0 or 8 only: every refusal of an input, and of the question in it, stands in the text that
+ * is written, those by 9, 10 and 14 too.
+ */
 enum {
     VULZHEDOR_DONE = 0,
     VULZHEDOR_FULL_SHEET = 1,         /* a stage at 16 stages, a task at 256 tasks */
@@ -63,9 +67,9 @@ uint32_t vulzhedor_quote(uint32_t speed, uint32_t rate, uint32_t work, uint32_t 
  * of each point of the front; or the line of a pair and of each task's machine; or the line of a refusal. It is not
  * ended by a byte 0.
  *
- * Returns 0 with the text at the start of the memory and its byte count in `written`; the memory past the text keeps what
- * it held. Returns 8 exactly where the memory is too short for the text, and then memory and `written` keep what they held.
- * Of a longer input the first 1,024 bytes decide.
+ * Returns 0 with the text at the start of the memory and its byte count in `written`, also where the text is the line of a
+ * refusal; the memory past the text keeps what it held. Returns 8 exactly where the memory is too short for the text, and
+ * then memory and `written` keep what they held. Of a longer input the first 1,024 bytes decide.
  */
 uint32_t vulzhedor_answer(const uint8_t *input, size_t input_length, uint8_t *text, size_t text_length, size_t *written);
 

@@ -5,6 +5,7 @@
 mod answer;
 mod bargains;
 mod better;
+mod by_place;
 mod charge;
 mod quote;
 mod status;
