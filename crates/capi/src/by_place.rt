@@ -8,11 +8,16 @@ ghost use Rattle.texts.specs.Write.{write_answer, write_after};
 ghost use Rattle.keyanswer.specs.Answer.{text_bytes, key_text};
 ghost use Rattle.keyanswer.specs.Compare.{compare_answer};
 ghost use Rattle.keyanswer.specs.Words.{TextTells};
+ghost use Rattle.keyanswer.specs.Better.{key_verdict};
+ghost use Rattle.capi.specs.Better.{better_status, better_after, length_after, cost_after, refused_input_after, refused_value_after, RightlyTold};
 ghost use Rattle.capi.specs.Bargains.{verdict_status, equal_after, about_after, carried_after, RightlyJudged};
 ghost use Rattle.capi.specs.Quote.{quote_answer, quote_status, minutes_after, cents_after};
 ghost use Rattle.capi.specs.Status.{status_of, number_after};
 
-use crate::{vulzhedor_answer, vulzhedor_charge, vulzhedor_quote, vulzhedor_same_bargains};
+use crate::{
+    vulzhedor_answer, vulzhedor_better_bargain, vulzhedor_charge, vulzhedor_quote,
+    vulzhedor_same_bargains,
+};
 
 fn charge_by_place(rate: u32, minutes: u32) -> u64
     ensures value { result ≡ (charge_of rate minutes).value }
@@ -55,4 +60,25 @@ fn same_bargains_by_place(
     ensures judged { RightlyJudged first.now second.now result equal.new }
 {
     vulzhedor_same_bargains(first, second, equal, about, carried)
+}
+
+fn better_bargain_by_place(
+    first: &[u8],
+    second: &[u8],
+    better: &mut u32,
+    length: &mut u32,
+    cost: &mut u64,
+    about: &mut u32,
+    carried: &mut u64,
+) -> u32
+    ensures status { result ≡ better_status (key_verdict first.now second.now) }
+    ensures better { better.new ≡ better_after (key_verdict first.now second.now) better.old }
+    ensures length { length.new ≡ length_after (key_verdict first.now second.now) length.old }
+    ensures cost { cost.new ≡ cost_after (key_verdict first.now second.now) cost.old }
+    ensures input { about.new ≡ refused_input_after (key_verdict first.now second.now) about.old }
+    ensures value { carried.new
+        ≡ refused_value_after (key_verdict first.now second.now) carried.old }
+    ensures words { RightlyTold first.now second.now result better.new length.new cost.new }
+{
+    vulzhedor_better_bargain(first, second, better, length, cost, about, carried)
 }
