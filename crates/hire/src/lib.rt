@@ -4,6 +4,7 @@
 mod answer;
 mod hire;
 mod line;
+mod plain;
 mod refusal;
 mod terms;
 

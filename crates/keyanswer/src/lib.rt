@@ -5,6 +5,7 @@ mod answer;
 mod better;
 mod compare;
 mod memory;
+mod plain;
 mod priced;
 mod refusal;
 mod verdict;

@@ -1,12 +1,11 @@
 -- Bytes taken from readers and given to writers
 use Rattle.std.proofs.Common.{◌≡◌, ℕ, List, [], ◌++◌, length, take, Some, None, Ok, Err, Option, Result, IfSome, OnOk, refl, ap, ◌∙◌, subst, ap₂, arith}
-use Rattle.std.proofs.lemmas.List.{take-take, take_at}
+use Rattle.std.proofs.lemmas.List.{take_at}
 use Rattle.std.specs.Option.{option_map}
 use Rattle.std.specs.declared.io.traits.Take.{Take}
 use Rattle.std.specs.Io.KnownBytes.{Appends}
 use Rattle.std.specs.Io.Take.{take_limit, take_inner, take_remaining}
-use Rattle.numbers.specs.Input.{value_of}
-use Rattle.keyinput.specs.Input.{key_in}
+use Rattle.keyinput.proofs.OnDeciding.{first_bytes_decide_input}
 use Rattle.keyanswer.specs.Answer.{deciding_bytes, key_text, answered, text_of}
 
 first_taken : (known : Option (List ℕ)) (most : ℕ) (read : List ℕ) → IfSome (option_map (take most) known) (λ bytes. read ≡ bytes) → IfSome known (λ bytes. read ≡ take most bytes)
@@ -23,9 +22,9 @@ module _ {R : Type 0} (remaining : R → Option (List ℕ)) where
       let inner = subst (λ (r : R). IfSome (option_map (take most) (remaining r)) (λ bytes. after ≡ before ++ bytes)) i limited in
       first_taken (remaining reader) most after (subst (λ (xs : List ℕ). IfSome (option_map (take most) (remaining reader)) (λ bytes. after ≡ xs ++ bytes)) b inner)
 
--- the bytes that decide are answered as the whole input
+-- the first bytes are answered as the whole input
 deciding_text : (bytes : List ℕ) → key_text (take deciding_bytes bytes) ≡ key_text bytes
-deciding_text bytes = ap (λ first. text_of (answered (value_of (key_in first)))) (take-take deciding_bytes deciding_bytes bytes (omega arith))
+deciding_text bytes = ap (λ read. text_of (answered read)) (first_bytes_decide_input bytes)
 
 text_appended : (known old new : Option (List ℕ)) (items read text rest : List ℕ) (count : ℕ)
     → IfSome known (λ bytes. items ≡ take deciding_bytes bytes) → read ≡ items → count ≡ length (key_text read) → text ≡ key_text read ++ rest

@@ -2,7 +2,6 @@
 ghost use Rattle.std.specs.Prelude.{◌≡◌, IfOk, OnOk, IfSome, vec_len};
 ghost use Rattle.std.specs.Io.KnownBytes.{Appends};
 ghost use Rattle.keyanswer.specs.Better.{better_heard, verdict_on, verdict_line, verdict_status};
-ghost use Rattle.keystreams.specs.Verdicts.{deciding_verdict};
 
 use crate::deciding::read_deciding;
 use costs::Cents;
@@ -55,7 +54,7 @@ fn judge(
 /// Reads two inputs, a card and a sheet each, and writes the line of the verdict on them, and nothing else; returns the
 /// exit status that tells it, as `cmp` does (docs/RULES.md, "Program `samebargains`").
 ///
-/// At most 1,024 bytes are read of each. It has memory for every two sheets, so refusals 7 and 8 do not come. It fails only
+/// At most 1,024 bytes are read of each, since these decide. It has memory for every two sheets, so refusals 7 and 8 do not come. It fails only
 /// where a reader, the writer or the memory does.
 pub fn write_verdict_on<R: Read + Drop, S: Read + Drop, W: Write>(
     alloc: Global,
@@ -67,11 +66,11 @@ pub fn write_verdict_on<R: Read + Drop, S: Read + Drop, W: Write>(
         (IfSome (R.remaining first) (λ first_input.
         IfSome (S.remaining second) (λ second_input.
         Appends (W.contents writer.old) (W.contents writer.new)
-        (verdict_line (deciding_verdict first_input second_input))))) }
+        (verdict_line (verdict_on first_input second_input))))) }
     ensures status { IfOk result (λ status.
         IfSome (R.remaining first) (λ first_input.
         IfSome (S.remaining second) (λ second_input.
-        status ≡ verdict_status (deciding_verdict first_input second_input)))) }
+        status ≡ verdict_status (verdict_on first_input second_input)))) }
 {
     let first_input = read_deciding(alloc, first)?;
     let second_input = read_deciding(alloc, second)?;

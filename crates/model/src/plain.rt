@@ -1,7 +1,7 @@
-// Points, cells and choices are compared and copied whole.
+// Points, cells, choices and better bargains are compared and copied whole.
 ghost use Rattle.std.proofs.Common.{rules};
 
-use crate::{Cell, Choice, Point};
+use crate::{Better, Cell, Choice, Point};
 use refusals::{PlainClone, PlainEq};
 
 impl<C: PlainEq> PlainEq for Point<C> {
@@ -25,5 +25,13 @@ impl<C: PlainEq> PlainEq for Choice<C> {
 }
 
 impl<C: PlainClone> PlainClone for Choice<C> {
+    ghost copied = { let cost = C.copied in Prim.search rules };
+}
+
+impl<C: PlainEq> PlainEq for Better<C> {
+    ghost same = { let cost = C.same in Prim.search rules };
+}
+
+impl<C: PlainClone> PlainClone for Better<C> {
     ghost copied = { let cost = C.copied in Prim.search rules };
 }

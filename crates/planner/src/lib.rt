@@ -6,6 +6,7 @@ mod better;
 mod fronts;
 mod limit;
 mod limits;
+mod plain;
 mod plan;
 mod refusal;
 mod scan;
