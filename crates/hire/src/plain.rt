@@ -1,12 +1,8 @@
-// Hires, their terms and refusals are compared and copied whole.
+// Terms and refusals of hires are compared and copied whole, and hires are copied whole.
 ghost use Rattle.std.proofs.Common.{rules};
 
 use crate::{Hire, HireRefusal, Terms};
 use refusals::{PlainClone, PlainEq};
-
-impl PlainEq for Hire {
-    ghost same = { Prim.search rules };
-}
 
 impl PlainClone for Hire {
     ghost copied = { Prim.search rules };
