@@ -57,14 +57,14 @@ enough_memory_is_answered K T book memory enough = record {
 }
 
 module _ {C : Type 0} {K : Kind C} (L : Laws K) where
-  covers_of_matched : (T U : Meaning C) → Ranged U → (b c : Book) → Matched K T b U c → Covers K (pairs K U (standing c)) (pairs K T (standing b))
+  pub covers_of_matched : (T U : Meaning C) → Ranged U → (b c : Book) → Matched K T b U c → Covers K (pairs K U (standing c)) (pairs K T (standing b))
   covers_of_matched T U F b c m p i =
       let x = of_pairs K T (standing b) p i in
       let y = m x.0 x.1 in
       let q : Point C = pair_of K U (standing c) y.0 in
       (q, in_pairs K U (standing c) F q (y.0, y.1, refl), subst (λ (z : Point C). no_worse K q z ≡ true) (sym x.2) (no_worse_from L _ _ y.2 y.3))
 
-  matched_of_covers : (T U : Meaning C) → Ranged T → (b c : Book) → Covers K (pairs K U (standing c)) (pairs K T (standing b)) → Matched K T b U c
+  pub matched_of_covers : (T U : Meaning C) → Ranged T → (b c : Book) → Covers K (pairs K U (standing c)) (pairs K T (standing b)) → Matched K T b U c
   matched_of_covers T U F b c h x a =
       let p : Point C = pair_of K T (standing b) x in
       let q = h p (in_pairs K T (standing b) F p (x, a, refl)) in

@@ -21,3 +21,4 @@ pub mod Bargains
 pub mod Joins
 pub mod Questions
 pub mod CostSteps
+pub mod BetterBargains

@@ -8,3 +8,4 @@ pub mod Limit
 pub mod Plan
 pub mod Question
 pub mod Bargain
+pub mod Better

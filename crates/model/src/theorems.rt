@@ -3,6 +3,7 @@ ghost use Rattle.costs.specs.Kind.{Laws};
 ghost use Rattle.model.specs.Allowance.{CheapestIsCheapest, GreatestTimesAreQuoted};
 ghost use Rattle.model.specs.Assignment.{AssignmentsAreAll};
 ghost use Rattle.model.specs.Bargain.{EnoughMemoryIsAnswered, EqualFrontsMeanSameBargains};
+ghost use Rattle.model.specs.Better.{BetterBargainsAreShown};
 ghost use Rattle.model.specs.Cell.{CellsStandAtTheirPlaces, LeastCostsShareOutMinutes};
 ghost use Rattle.model.specs.Front.{FrontListsUnbeatenPairs, FrontsWithoutStagesOrQuotes};
 ghost use Rattle.model.specs.Limit.{LimitsGiveBestPairs};
@@ -112,6 +113,14 @@ pub fn enough_memory_is_answered<C: Cost>()
 // and exactly when every budget and every deadline gets the same answer.
 pub fn equal_fronts_mean_same_bargains<C: Cost>()
     ensures { EqualFrontsMeanSameBargains C.Cost.kind }
+{
+    laws_hold::<C>();
+}
+
+// The better bargain of two sheets means what the words say, there is none exactly when the fronts are equal, and it
+// stands where the fronts first differ.
+pub fn better_bargains_are_shown<C: Cost>()
+    ensures { BetterBargainsAreShown C.Cost.kind }
 {
     laws_hold::<C>();
 }

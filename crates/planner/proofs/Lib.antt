@@ -7,5 +7,6 @@ pub mod FirstList
 pub mod PlanBytes
 pub mod SamePoints
 pub mod Compared
+pub mod BetterTold
 pub mod Verdicts
 pub mod Words

@@ -26,36 +26,41 @@ module _ {C : Type 0} (K : Kind C) where
   same_points (p ∷ ps) [] = false
   same_points (p ∷ ps) (q ∷ qs) = same_point p q && same_points ps qs
 
--- what the question answers and leaves: two sheets' books, each under its tariff, one cell memory and points for each
-module _ {C : Type 0} (K : Kind C) (T : Meaning C) (book : Book) (U : Meaning C) (other : Book) (cells : List (Cell C)) (mine yours : List (Point C)) where
+-- what the question answers and leaves, by the book of the first sheet under T and that of the second under U, with one
+-- memory of cells for both and points for each
+module _ {C : Type 0} (K : Kind C) (T : Meaning C) (first : Book) (U : Meaning C) (second : Book) (cells : List (Cell C)) (first_points second_points : List (Point C)) where
   -- fewer cells than either front needs
-  abbrev pub few_for_both : Bool
-  few_for_both = few_cells T book cells || few_cells U other cells
+  abbrev pub few_for_either : Bool
+  few_for_either = few_cells T first cells || few_cells U second cells
 
-  -- points too short for the first front, and for the second
-  abbrev pub short_mine : Bool
-  short_mine = nat_lt (length mine) (length (front K T book))
+  -- the points of the first front are too short for it, and those of the second
+  abbrev pub first_too_short : Bool
+  first_too_short = nat_lt (length first_points) (length (front K T first))
 
-  abbrev pub short_yours : Bool
-  short_yours = nat_lt (length yours) (length (front K U other))
+  abbrev pub second_too_short : Bool
+  second_too_short = nat_lt (length second_points) (length (front K U second))
 
   -- whether the fronts are equal, or refusal 7 or 8
   abbrev pub bargains_answer : Answer Bool
   bargains_answer =
-      refused_if few_for_both 7
-      (refused_if (short_mine || short_yours) 8
-      (Ok (same_points K (front K T book) (front K U other))))
+      refused_if few_for_either 7
+      (refused_if (first_too_short || second_too_short) 8
+      (Ok (same_points K (front K T first) (front K U second))))
 
   -- the cells are filled for the first sheet, and then, unless its points were too short, for the second
   abbrev pub bargains_cells : List (Cell C)
-  bargains_cells = cond few_for_both cells (cond short_mine (filled K T book cells) (filled K U other (filled K T book cells)))
+  bargains_cells = cond few_for_either cells (cond first_too_short (filled K T first cells) (filled K U second (filled K T first cells)))
 
   -- each front is written where it fits; the second only if the first did
-  abbrev pub bargains_mine : List (Point C)
-  bargains_mine = cond (few_for_both || short_mine) mine (front K T book ++ drop (length (front K T book)) mine)
+  abbrev pub bargains_first_points : List (Point C)
+  bargains_first_points =
+      cond (few_for_either || first_too_short) first_points
+      (front K T first ++ drop (length (front K T first)) first_points)
 
-  abbrev pub bargains_yours : List (Point C)
-  bargains_yours = cond (few_for_both || (short_mine || short_yours)) yours (front K U other ++ drop (length (front K U other)) yours)
+  abbrev pub bargains_second_points : List (Point C)
+  bargains_second_points =
+      cond (few_for_either || (first_too_short || second_too_short)) second_points
+      (front K U second ++ drop (length (front K U second)) second_points)
 
 -- the statement for two tariffs: for every two histories of calls and memory enough, equal fronts, matched assignments and
 -- same answers under every limit come to one

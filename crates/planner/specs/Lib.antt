@@ -2,4 +2,5 @@ pub mod Refusal
 pub mod Row
 pub mod Limit
 pub mod Bargain
+pub mod Better
 pub mod Words

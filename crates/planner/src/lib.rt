@@ -2,6 +2,7 @@
 #![tactic(auto)]
 
 mod bargains;
+mod better;
 mod fronts;
 mod limit;
 mod limits;
@@ -10,6 +11,7 @@ mod refusal;
 mod scan;
 
 pub use bargains::same_bargains;
+pub use better::better_bargain;
 pub use fronts::front;
 pub use limits::{budget, deadline};
 pub use refusal::QuestionRefusal;
