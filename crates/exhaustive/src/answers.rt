@@ -14,6 +14,13 @@ pub(crate) struct PlainCell {
     pub(crate) cost: u64,
 }
 
+// The better bargain of two sheets: which sheet has it, and its pair.
+#[derive(Clone, Copy, Drop, PartialEq, Eq, Debug)]
+pub(crate) enum PlainBetter {
+    First(Pair),
+    Second(Pair),
+}
+
 // All that the questions about a batch rest on.
 #[derive(Drop)]
 pub(crate) struct Answers {
@@ -131,6 +138,26 @@ impl Answers {
             Limit::Deadline(minutes) => self.deadline(minutes),
         };
         best.ok_or(Told::bare(10))
+    }
+
+    // The shortest pair that no pair of the others is as good as, of that length the cheapest.
+    fn unmatched_by(&self, others: &Answers) -> Option<Pair> {
+        self.pairs
+            .iter()
+            .filter(|pair| !others.pairs.iter().any(|other| other.is_within(**pair)))
+            .min_by_key(|pair| (pair.length, pair.cost))
+            .copied()
+    }
+
+    // The better bargain of two sheets, none where for every assignment of either the other has one as good.
+    pub(crate) fn better(&self, others: &Answers) -> Option<PlainBetter> {
+        let first = self.unmatched_by(others);
+        let second = others.unmatched_by(self);
+        match (first, second) {
+            (Some(pair), Some(other)) if other.precedes(pair) => Some(PlainBetter::Second(other)),
+            (Some(pair), _) => Some(PlainBetter::First(pair)),
+            (None, other) => other.map(PlainBetter::Second),
+        }
     }
 
     // Whether for every assignment the others have one that is no longer and no dearer.

@@ -1,13 +1,13 @@
 // The questions of the planner, asked and compared.
-use crate::answers::{Answers, PlainCell};
+use crate::answers::{Answers, PlainBetter, PlainCell};
 use crate::lent::{Contents, Memory, Sizes, Written, pair_of};
 use crate::limit::Limit;
 use crate::pair::Pair;
 use crate::prices::{MOST_MACHINES, Offer, Prices};
 use crate::report::{Outcome, Question, Report};
 use crate::told::Told;
-use model::PricedSheet;
-use planner::{budget, deadline, front, same_bargains};
+use model::{Better, PricedSheet};
+use planner::{better_bargain, budget, deadline, front, same_bargains};
 use std::alloc::{AllocError, Global};
 use tariffs::Tariff;
 use trials::Amount;
@@ -177,6 +177,13 @@ impl<'a> Compared<'a> {
         }
     }
 
+    fn better(&self) -> Result<Option<PlainBetter>, Told> {
+        match self.refusal() {
+            Some(told) => Err(told),
+            None => Ok(self.first.better(self.second)),
+        }
+    }
+
     // The cells that the comparison leaves: the first sheet's, and the second's over them.
     fn cells_left(&self, heap: Global) -> Result<Vec<PlainCell>, AllocError> {
         let again = self.second.cells_if(self.has_cells() && self.holds_first());
@@ -234,4 +241,44 @@ where
     let wanted = compared.verdict();
     let same = answer == wanted && compared.is_left_in(heap, memory, &before)?;
     report.note_verdict(Question::Bargains, wanted, same)
+}
+
+fn plain_better<C: Amount>(better: Better<C>) -> PlainBetter {
+    match better {
+        Better::First(point) => PlainBetter::First(pair_of(point)),
+        Better::Second(point) => PlainBetter::Second(pair_of(point)),
+    }
+}
+
+// Asks which sheet has the better bargain.
+pub(crate) fn ask_better<T: Tariff, U: Tariff<Cost = T::Cost>>(
+    report: &mut Report,
+    memory: &mut Memory<T::Cost>,
+    first: &Asked<T>,
+    second: &Asked<U>,
+    sizes: Sizes,
+) -> anyhow::Result<()>
+where
+    T::Cost: Amount,
+{
+    let heap = report.rt.alloc();
+    let before = memory.lend(heap, sizes)?;
+    let answer = better_bargain(
+        &first.priced,
+        &second.priced,
+        &mut memory.cells,
+        &mut memory.points,
+        &mut memory.second_points,
+    )
+    .map(|better| better.map(plain_better))
+    .map_err(Told::of);
+    let compared = Compared {
+        first: first.answers,
+        second: second.answers,
+        sizes,
+    };
+    let wanted = compared.better();
+    let same = answer == wanted && compared.is_left_in(heap, memory, &before)?;
+    let refused = wanted.err();
+    report.note(Question::Better, Outcome { same, refused })
 }

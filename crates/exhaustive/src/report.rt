@@ -12,6 +12,7 @@ pub(crate) enum Question {
     Budget,
     Deadline,
     Bargains,
+    Better,
     Written,
     Read,
     Key,
@@ -19,7 +20,7 @@ pub(crate) enum Question {
     Printed,
 }
 
-const QUESTIONS: [Question; 13] = [
+const QUESTIONS: [Question; 14] = [
     Question::Call,
     Question::Line,
     Question::Rows,
@@ -28,6 +29,7 @@ const QUESTIONS: [Question; 13] = [
     Question::Budget,
     Question::Deadline,
     Question::Bargains,
+    Question::Better,
     Question::Written,
     Question::Read,
     Question::Key,
@@ -70,6 +72,7 @@ impl Question {
             Question::Budget => "budgets",
             Question::Deadline => "deadlines",
             Question::Bargains => "comparisons of two sheets",
+            Question::Better => "better bargains of two sheets",
             Question::Written => "sheets written to a file",
             Question::Read => "files of a sheet read",
             Question::Key => "inputs answered",

@@ -8,7 +8,7 @@ use crate::lent::{Memories, Memory, Sizes};
 use crate::limit::Limit;
 use crate::offered::Offered;
 use crate::prices::Prices;
-use crate::questions::{Asked, ask_bargains, ask_front, ask_limit, ask_quotes};
+use crate::questions::{Asked, ask_bargains, ask_better, ask_front, ask_limit, ask_quotes};
 use crate::report::Report;
 use costs::{Cents, Grade};
 use model::PricedSheet;
@@ -114,8 +114,10 @@ impl<'a> Trial<'a> {
         };
         try_quotes(report, first, self.first)?;
         try_questions(report, numbers, memory, &asked, self.limits)?;
-        let sizes = sizes(numbers, self.answers, self.others);
-        ask_bargains(report, memory, &asked, &other, sizes)
+        let lent = sizes(numbers, self.answers, self.others);
+        ask_bargains(report, memory, &asked, &other, lent)?;
+        let lent = sizes(numbers, self.answers, self.others);
+        ask_better(report, memory, &asked, &other, lent)
     }
 
     // Takes the tariff in cents that has the second sheet's prices.
