@@ -15,7 +15,7 @@ use Rattle.sheets.specs.Book.{book}
 use Rattle.model.specs.declared.cell.Cell.{Cell}
 use Rattle.model.specs.declared.point.Point.{Point}
 use Rattle.model.specs.Assignment.{standing}
-use Rattle.model.specs.Cell.{span, width, cells_needed, least_cost}
+use Rattle.model.specs.Cell.{width, cells_needed, least_cost}
 use Rattle.model.specs.Front.{front}
 use Rattle.model.specs.Scan.{drops, point, point_at, drops_below}
 use Rattle.model.proofs.Loops.{span_bound, stage_count}

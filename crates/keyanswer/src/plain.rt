@@ -1,7 +1,7 @@
 // Refusals of comparisons are compared and copied whole.
 ghost use Rattle.std.proofs.Common.{rules};
 
-use crate::{CompareRefusal};
+use crate::CompareRefusal;
 use refusals::{PlainClone, PlainEq};
 
 impl PlainEq for CompareRefusal {

@@ -1,7 +1,7 @@
 // Machines of tasks are compared and copied whole.
 ghost use Rattle.std.proofs.Common.{rules};
 
-use crate::{Assigned};
+use crate::Assigned;
 use refusals::{PlainClone, PlainEq};
 
 impl PlainEq for Assigned {

@@ -1,7 +1,7 @@
 // Refusals of numbers are compared and copied whole.
 ghost use Rattle.std.proofs.Common.{rules};
 
-use crate::{NumberRefusal};
+use crate::NumberRefusal;
 use refusals::{PlainClone, PlainEq};
 
 impl PlainEq for NumberRefusal {

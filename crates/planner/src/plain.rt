@@ -1,7 +1,7 @@
 // Refusals of questions are compared and copied whole.
 ghost use Rattle.std.proofs.Common.{rules};
 
-use crate::{QuestionRefusal};
+use crate::QuestionRefusal;
 use refusals::{PlainClone, PlainEq};
 
 impl PlainEq for QuestionRefusal {
