@@ -1,6 +1,6 @@
 -- That the tariff of given charges keeps the ranges of every tariff.
 -- These are proofs. They stand here since a tariff hands them over as a part of what it means.
-use Rattle.std.specs.Prelude.{◌≡◌, ℕ, ◌+◌, ◌*◌, ◌%◌, ◌≤◌, Some, None, Option, nat_le, nat_lt, cond}
+use Rattle.std.specs.Prelude.{◌≡◌, ◌+◌, ◌*◌, ◌%◌, ◌≤◌, Some, None, Option, nat_le, nat_lt}
 use Rattle.std.specs.List.{slice_get}
 use Rattle.std.proofs.Common.{arith, lit≤}
 use Rattle.std.proofs.lemmas.Option.{none-some}
@@ -12,7 +12,7 @@ use Rattle.tariffs.specs.Meaning.{Ranged}
 use Rattle.tariffs.specs.Ranges.{some_through, none_through}
 use Rattle.exhaustive.specs.declared.given.Charge.{Charge}
 use Rattle.exhaustive.specs.declared.given.GivenTariff.{GivenTariff}
-use Rattle.exhaustive.specs.Given.{charge_quote, given_quote, given_meaning}
+use Rattle.exhaustive.specs.Given.{charge_quote, given_meaning}
 
 charge_timed : (o : Option Charge) (q : Quote Cents) → charge_quote o ≡ Some q → (1 ≤ q.minutes) × (q.minutes ≤ 1440)
 charge_timed None q e = absurd (none-some q e)
