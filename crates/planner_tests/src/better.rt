@@ -1,23 +1,38 @@
 // Which of two sheets, each under its tariff, has the better bargain.
 use crate::samples::{
-    Used, card, graded, point, priced, row, sheet_of_one, sheet_x_reordered, used_cell, used_point,
+    card, graded, point, priced, row, sheet_of_one, sheet_x_reordered, used_cell, used_point,
 };
-use costs::Cents;
+use costs::{Cents, Grade};
 use model::{Better, PricedSheet};
 use planner::{QuestionRefusal, better_bargain};
-use tariffs::{NeverQuotes, QuoteTable, Tariff};
+use tariffs::{NeverQuotes, QuoteTable, Row, Tariff};
 use worked::{card_a, rows_g, sheet_x};
 
-fn asked<C: Used, T: Tariff<Cost = C>, U: Tariff<Cost = C>>(
+fn asked<T: Tariff<Cost = Cents>, U: Tariff<Cost = Cents>>(
     first: &PricedSheet<T>,
     second: &PricedSheet<U>,
-) -> Result<Option<Better<C>>, QuestionRefusal> {
+) -> Result<Option<Better<Cents>>, QuestionRefusal> {
     let mut cells = [used_cell(); 128];
     let mut first_points = [used_point(); 12];
     let mut second_points = [used_point(); 12];
     better_bargain(
         first,
         second,
+        &mut cells,
+        &mut first_points,
+        &mut second_points,
+    )
+}
+
+// The same of sheet X by two tables.
+fn by_tables(first: &[Row], second: &[Row]) -> Result<Option<Better<Grade>>, QuestionRefusal> {
+    let sheet = sheet_x();
+    let mut cells = [used_cell::<Grade>(); 64];
+    let mut first_points = [used_point(); 4];
+    let mut second_points = [used_point(); 4];
+    better_bargain(
+        &priced(&sheet, &QuoteTable::over(first)),
+        &priced(&sheet, &QuoteTable::over(second)),
         &mut cells,
         &mut first_points,
         &mut second_points,
@@ -108,7 +123,6 @@ fn a_task_that_nothing_quotes_has_no_bargain(rt: HostRuntime) {
 
 #[test]
 fn x_by_g_and_one_more_row(rt: HostRuntime) {
-    let x = sheet_x();
     let [a, b, c, d, e] = rows_g();
     for (minutes, grade, better) in [
         (3, 4, None),
@@ -116,13 +130,7 @@ fn x_by_g_and_one_more_row(rt: HostRuntime) {
         (1, 8, Some(Better::Second(graded(6, 8)))),
     ] {
         let rows = [a, b, c, d, e, row(7, 60, minutes, grade)];
-        assert_eq!(rt;
-            asked(
-                &priced(&x, &QuoteTable::over(&rows_g())),
-                &priced(&x, &QuoteTable::over(&rows))
-            ),
-            Ok(better)
-        );
+        assert_eq!(rt; by_tables(&rows_g(), &rows), Ok(better));
     }
 }
 
