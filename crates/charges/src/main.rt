@@ -1,10 +1,14 @@
 //! `charges WORK SPEED RATE [SPEED RATE ..]` prints what each machine on these terms quotes for the work.
 #![tactic(auto)]
 
+ghost use Rattle.std.specs.Prelude.{OnOk};
+ghost use Rattle.std.specs.Io.KnownBytes.{Appends};
+ghost use Rattle.hire.specs.Answer.{hire_text};
+
 use hire::{HIRE_TEXT_BYTES, Terms, write_hire};
-use std::env;
 use std::io::Write;
 use std::process::ExitCode;
+use std::{env, io};
 use texts::read_number;
 
 const USAGE: &str = "usage: charges WORK SPEED RATE [SPEED RATE ..]
@@ -30,6 +34,15 @@ fn read_arguments(rt: &HostRuntime) -> anyhow::Result<Option<Vec<u32>>> {
     Ok(numbers)
 }
 
+// Writes the lines of a hire and nothing else.
+fn write_answer<W: Write>(work: u32, terms: &[Terms], out: &mut W) -> io::Result<()>
+    ensures { OnOk result (Appends (W.contents out.old) (W.contents out.new) (hire_text work terms.now)) }
+{
+    let mut text = [0; HIRE_TEXT_BYTES];
+    let written = write_hire(work, terms, &mut text);
+    out.write_all(&text[..written])
+}
+
 // Prints the quotes for a work, or why they are refused; each machine's terms are a speed and a rate.
 fn print_answer(rt: &HostRuntime, work: u32, pairs: &[[u32; 2]]) -> anyhow::Result<()> {
     let terms = pairs
@@ -39,9 +52,7 @@ fn print_answer(rt: &HostRuntime, work: u32, pairs: &[[u32; 2]]) -> anyhow::Resu
             rate: *rate,
         })
         .collect::<Vec<_>>(rt.alloc())?;
-    let mut text = [0; HIRE_TEXT_BYTES];
-    let written = write_hire(work, &terms, &mut text);
-    rt.stdout().write_all(&text[..written])?;
+    write_answer(work, &terms, &mut rt.stdout())?;
     Ok(())
 }
 
