@@ -10,7 +10,8 @@ use std::io;
 use std::io::{Read, Write};
 
 /// Reads the input of a key and writes the text that answers it, and nothing else (docs/RULES.md, "Program `keysheet`").
-/// At most 1,024 bytes are read, since these decide. It fails only where the reader, the writer or the memory for the input does.
+/// At most 1,024 bytes are read, since these decide. Where the reader, the writer or the memory for the input fails, so does
+/// it.
 pub fn write_answer<R: Read + Drop, W: Write>(
     alloc: Global,
     reader: R,

@@ -13,7 +13,7 @@ Compares two files, each a card and a sheet in file numbers with nothing behind 
 Prints `same` where both offer the same bargains; else `first` or `second`, the one that
 has the better bargain, with its length and cost. What is refused prints `refused`, which
 file, the refusal's number and the place in the file that it is about.
-Ends with 0 for the same bargains, 1 for different ones, and 2 for all else.
+Ends with 0 for the same bargains and for --help, 1 for different ones, 2 for all else.
 ";
 
 // The exit status of what is refused, misused or cannot be read.

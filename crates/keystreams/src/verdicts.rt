@@ -54,8 +54,8 @@ fn judge(
 /// Reads two inputs, a card and a sheet each, and writes the line of the verdict on them, and nothing else; returns the
 /// exit status that tells it, as `cmp` does (docs/RULES.md, "Program `samebargains`").
 ///
-/// At most 1,024 bytes are read of each, since these decide. It has memory for every two sheets, so refusals 7 and 8 do not come. It fails only
-/// where a reader, the writer or the memory does.
+/// At most 1,024 bytes are read of each, since these decide. It has memory for every two sheets, so refusals 7 and 8 do not
+/// come. Where a reader, the writer or the memory fails, so does it.
 pub fn write_verdict_on<R: Read + Drop, S: Read + Drop, W: Write>(
     alloc: Global,
     first: R,

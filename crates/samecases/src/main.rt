@@ -3,14 +3,15 @@
 
 use keystreams::same_bargains_command;
 
-const COMMANDS: [&[&str]; 11] = [
+const COMMANDS: [&[&str]; 12] = [
     &["two_machines.batch", "three_machines.batch"],
     &["two_machines.batch", "fast_machine.batch"],
     &["fast_machine.batch", "two_machines.batch"],
-    &["longest.batch", "longest.batch"],
+    &["most_cells.batch", "most_cells.batch"],
     &["cut.batch", "two_machines.batch"],
     &["two_machines.batch", "cut.batch"],
     &["longer.batch", "cut.batch"],
+    &["two_machines.batch", "very_long.batch"],
     &["missing.batch", "two_machines.batch"],
     &["two_machines.batch"],
     &["two_machines.batch", "two_machines.batch", "cut.batch"],
