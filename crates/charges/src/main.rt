@@ -36,7 +36,8 @@ fn read_arguments(rt: &HostRuntime) -> anyhow::Result<Option<Vec<u32>>> {
 
 // Writes the lines of a hire and nothing else.
 fn write_answer<W: Write>(work: u32, terms: &[Terms], out: &mut W) -> io::Result<()>
-    ensures { OnOk result (Appends (W.contents out.old) (W.contents out.new) (hire_text work terms.now)) }
+    ensures { OnOk result
+        (Appends (W.contents out.old) (W.contents out.new) (hire_text work terms.now)) }
 {
     let mut text = [0; HIRE_TEXT_BYTES];
     let written = write_hire(work, terms, &mut text);
