@@ -39,7 +39,8 @@ fn answer_by_place(input: &mut [u8], text: &mut [u8], written: &mut usize) -> u3
     ensures status { result ≡ status_of (write_answer (key_text input.old) text.old) }
     ensures after { text.new ≡ write_after (key_text input.old) text.old }
     ensures input { input.new ≡ input.old }
-    ensures count { written.new ≡ number_after (write_answer (key_text input.old) text.old) written.old }
+    ensures count { written.new
+        ≡ number_after (write_answer (key_text input.old) text.old) written.old }
     ensures fits { text_bytes ≤ length text.old → result ≡ 0 }
     ensures words { result ≡ 0 → TextTells input.old (take written.new text.new) }
 {

@@ -15,7 +15,8 @@ pub fn write_quote<T: Tariff<Cost = Cents>>(
     work: u32,
     memory: &mut [u8],
 ) -> Result<usize, TooShort>
-    ensures text { let words = quote_words machine ((T.Tariff.meaning tariff.now).quote machine work) in
+    ensures text { let meaning = T.Tariff.meaning tariff.now in
+        let words = quote_words machine (meaning.quote machine work) in
         Writes (line words) memory.old memory.new result }
     ensures fits { FitsIn 63 memory.old result }
 {
