@@ -10,6 +10,10 @@ enum { QUESTION_BYTES = 3 };
 /* The card and the sheet of examples/budget.key with the stages exchanged. */
 static const uint8_t exchanged[] = {3, 10, 0xD8, 4, 20, 0xDC, 11, 60, 0xF0, 46, 2, 1, 60, 2, 100, 60};
 
+/* Those of examples/two_machines.batch and examples/fast_machine.batch. */
+static const uint8_t two_machines[] = {2, 10, 0xD8, 4, 20, 0xDC, 11, 2, 1, 0x90, 3, 1, 0xD8, 4};
+static const uint8_t fast_machine[] = {3, 10, 0xD8, 4, 20, 0xDC, 11, 40, 0x90, 28, 2, 1, 0x90, 3, 1, 0xD8, 4};
+
 static void print_quote(uint32_t speed, uint32_t rate, uint32_t work) {
     uint32_t minutes;
     uint64_t cents;
@@ -48,6 +52,23 @@ static void print_verdict(const uint8_t *first, size_t first_length, const uint8
     }
 }
 
+static void print_better(const uint8_t *first, size_t first_length, const uint8_t *second, size_t second_length) {
+    uint32_t better;
+    uint32_t length;
+    uint64_t cost;
+    uint32_t about;
+    uint64_t carried;
+    uint32_t status = vulzhedor_better_bargain(first, first_length, second, second_length, &better, &length, &cost, &about,
+                                               &carried);
+    if (status != VULZHEDOR_DONE) {
+        printf("better bargain: refused %" PRIu32 " for input %" PRIu32 "\n", status, about);
+    } else if (better == 0) {
+        printf("better bargain: neither\n");
+    } else {
+        printf("better bargain: input %" PRIu32 ", %" PRIu32 " minutes, %" PRIu64 " cents\n", better, length, cost);
+    }
+}
+
 int main(int argc, char **argv) {
     uint8_t input[1024];
     FILE *file = argc == 2 ? fopen(argv[1], "rb") : NULL;
@@ -69,5 +90,8 @@ int main(int argc, char **argv) {
     print_answer(input, length);
     print_verdict(input, length - QUESTION_BYTES, exchanged, sizeof exchanged);
     print_verdict(input, length - QUESTION_BYTES, exchanged, sizeof exchanged - 1);
+    print_better(two_machines, sizeof two_machines, fast_machine, sizeof fast_machine);
+    print_better(two_machines, sizeof two_machines, two_machines, sizeof two_machines);
+    print_better(two_machines, sizeof two_machines, fast_machine, sizeof fast_machine - 1);
     return 0;
 }

@@ -33,10 +33,27 @@ mod vulzhedor {
                 about: &mut u32,
                 carried: &mut u64,
             ) -> u32;
+            pub fn vulzhedor_better_bargain(
+                first: *const u8,
+                first_length: usize,
+                second: *const u8,
+                second_length: usize,
+                better: &mut u32,
+                length: &mut u32,
+                cost: &mut u64,
+                about: &mut u32,
+                carried: &mut u64,
+            ) -> u32;
         }
     }
 
     pub struct Quote {
+        pub minutes: u32,
+        pub cents: u64,
+    }
+
+    pub struct Bargain {
+        pub input: u32,
         pub minutes: u32,
         pub cents: u64,
     }
@@ -106,6 +123,39 @@ mod vulzhedor {
             }),
         }
     }
+
+    /// The better bargain of two inputs, if they do not offer the same ones.
+    pub fn better_bargain(first: &[u8], second: &[u8]) -> Result<Option<Bargain>, Refusal> {
+        let (mut input, mut minutes, mut cents) = (0, 0, 0);
+        let (mut about, mut carried) = (0, 0);
+        // SAFETY: pointers and lengths are those of slices.
+        let status = unsafe {
+            foreign::vulzhedor_better_bargain(
+                first.as_ptr(),
+                first.len(),
+                second.as_ptr(),
+                second.len(),
+                &mut input,
+                &mut minutes,
+                &mut cents,
+                &mut about,
+                &mut carried,
+            )
+        };
+        match status {
+            DONE => Ok(Some(Bargain {
+                input,
+                minutes,
+                cents,
+            })
+            .filter(|bargain| bargain.input != 0)),
+            number => Err(Refusal {
+                number,
+                input: about,
+                place: Some(carried).filter(|&place| place != u64::MAX),
+            }),
+        }
+    }
 }
 
 /// The question at the end of examples/budget.key: a budget of 260 cents.
@@ -114,6 +164,12 @@ const QUESTION_BYTES: usize = 3;
 /// The card and the sheet of examples/budget.key with the stages exchanged.
 const EXCHANGED: [u8; 16] = [
     3, 10, 0xD8, 4, 20, 0xDC, 11, 60, 0xF0, 46, 2, 1, 60, 2, 100, 60,
+];
+
+/// The cards and sheets of examples/two_machines.batch and examples/fast_machine.batch.
+const TWO_MACHINES: [u8; 14] = [2, 10, 0xD8, 4, 20, 0xDC, 11, 2, 1, 0x90, 3, 1, 0xD8, 4];
+const FAST_MACHINE: [u8; 17] = [
+    3, 10, 0xD8, 4, 20, 0xDC, 11, 40, 0x90, 28, 2, 1, 0x90, 3, 1, 0xD8, 4,
 ];
 
 fn print_quote(speed: u32, rate: u32, work: u32) {
@@ -145,6 +201,20 @@ fn print_verdict(first: &[u8], second: &[u8]) {
     }
 }
 
+fn print_better(first: &[u8], second: &[u8]) {
+    match vulzhedor::better_bargain(first, second) {
+        Ok(Some(bargain)) => println!(
+            "better bargain: input {}, {} minutes, {} cents",
+            bargain.input, bargain.minutes, bargain.cents
+        ),
+        Ok(None) => println!("better bargain: neither"),
+        Err(refusal) => println!(
+            "better bargain: refused {} for input {}",
+            refusal.number, refusal.input
+        ),
+    }
+}
+
 fn main() -> ExitCode {
     let Some(path) = std::env::args().nth(1) else {
         eprintln!("usage: example INPUT");
@@ -166,5 +236,8 @@ fn main() -> ExitCode {
     print_answer(&input);
     print_verdict(batch, &EXCHANGED);
     print_verdict(batch, &EXCHANGED[..EXCHANGED.len() - 1]);
+    print_better(&TWO_MACHINES, &FAST_MACHINE);
+    print_better(&TWO_MACHINES, &TWO_MACHINES);
+    print_better(&TWO_MACHINES, &FAST_MACHINE[..FAST_MACHINE.len() - 1]);
     ExitCode::SUCCESS
 }

@@ -1,5 +1,5 @@
 /*
- * Measures how much of the stack the two calls take that have working memory on it. usage: stack INPUT..
+ * Measures how much of the stack the three calls take that have working memory on it. usage: stack INPUT..
  *
  * Each call runs in a thread whose stack was filled with one byte before; the deepest byte that differs afterwards tells
  * how far it reached. A thread that makes no call is taken off.
@@ -38,6 +38,16 @@ static void *call_same_bargains(void *none) {
     uint32_t about;
     uint64_t carried;
     (void)vulzhedor_same_bargains(batch, sizeof batch, batch, sizeof batch, &equal, &about, &carried);
+    return none;
+}
+
+static void *call_better_bargain(void *none) {
+    uint32_t better;
+    uint32_t length;
+    uint64_t cost;
+    uint32_t about;
+    uint64_t carried;
+    (void)vulzhedor_better_bargain(batch, sizeof batch, batch, sizeof batch, &better, &length, &cost, &about, &carried);
     return none;
 }
 
@@ -81,5 +91,6 @@ int main(int argc, char **argv) {
     }
     printf("vulzhedor_answer: %zu bytes of stack\n", most);
     printf("vulzhedor_same_bargains: %zu bytes of stack\n", reached(call_same_bargains) - nothing);
+    printf("vulzhedor_better_bargain: %zu bytes of stack\n", reached(call_better_bargain) - nothing);
     return 0;
 }

@@ -1,5 +1,5 @@
 /*
- * Vulzhedor: charges, quotes, answers to inputs, and whether two inputs offer the same bargains.
+ * Vulzhedor: charges, quotes, answers to inputs, whether two inputs offer the same bargains, and which has the better one.
  *
  * `rt lib` in crates/capi proves these functions and writes out/libcapi.a there. docs/RULES.md has the rules, the form
  * of an input and every refusal.
@@ -9,8 +9,9 @@
  *
  * A call writes to the memory and numbers handed over only what is said below, and keeps nothing. It allocates nothing,
  * holds no state, and may be made from several threads at once. It has its working memory on the stack:
- * vulzhedor_answer about 165 kB, vulzhedor_same_bargains about 252 kB, as `c/run --stack` measures, the others next to
- * none. No proof says that the stack suffices: a thread that calls one of these two should have 512 kB or more.
+ * vulzhedor_answer about 165 kB, vulzhedor_same_bargains and vulzhedor_better_bargain about 252 kB each, as
+ * `c/run --stack` measures, the others next to none. No proof says that the stack suffices: a thread that calls one of
+ * these three should have 512 kB or more.
  */
 #ifndef VULZHEDOR_H
 #define VULZHEDOR_H
@@ -22,7 +23,11 @@
 extern "C" {
 #endif
 
-/* What a call returns: 0, 255 or the number of a refusal. Refusals 9, 10 and 14 stand in the text of an answer only. */
+/*
+ * What a call returns: 0, 255 or the number of a refusal. A quote returns 0, 3, 5 or 255; a comparison 0, 1, 3, 4, 5, 7, 8,
+ * 11, 12 or 13. An answer returns 0 or 8 only: every refusal of an input, and of the question in it, stands in the text that
+ * is written, those by 9, 10 and 14 too.
+ */
 enum {
     VULZHEDOR_DONE = 0,
     VULZHEDOR_FULL_SHEET = 1,         /* a stage at 16 stages, a task at 256 tasks */
@@ -62,9 +67,9 @@ uint32_t vulzhedor_quote(uint32_t speed, uint32_t rate, uint32_t work, uint32_t 
  * of each point of the front; or the line of a pair and of each task's machine; or the line of a refusal. It is not
  * ended by a byte 0.
  *
- * Returns 0 with the text at the start of the memory and its byte count in `written`; the memory past the text keeps what
- * it held. Returns 8 exactly where the memory is too short for the text, and then memory and `written` keep what they held.
- * Of a longer input the first 1,024 bytes decide.
+ * Returns 0 with the text at the start of the memory and its byte count in `written`, also where the text is the line of a
+ * refusal; the memory past the text keeps what it held. Returns 8 exactly where the memory is too short for the text, and
+ * then memory and `written` keep what they held. Of a longer input the first 1,024 bytes decide.
  */
 uint32_t vulzhedor_answer(const uint8_t *input, size_t input_length, uint8_t *text, size_t text_length, size_t *written);
 
@@ -79,6 +84,19 @@ uint32_t vulzhedor_answer(const uint8_t *input, size_t input_length, uint8_t *te
  */
 uint32_t vulzhedor_same_bargains(const uint8_t *first, size_t first_length, const uint8_t *second, size_t second_length,
                                  uint32_t *equal, uint32_t *about, uint64_t *carried);
+
+/*
+ * Which of two inputs, a card and a sheet each with nothing behind them, has the better bargain: a pair of length and cost
+ * that an assignment of that one has, and no assignment of the other is as good as, that is no longer and no dearer. It is
+ * the shortest such pair of either and, of that length, the cheapest.
+ *
+ * Returns 0 with `better` written: 1 for the first, 2 for the second, with `length` in minutes and `cost` in cents of the
+ * pair written; or 0 where both offer the same bargains, and then `length` and `cost` keep what they held. `about` and
+ * `carried` keep what they held. Returns the number of a refusal with `about` and `carried` written as
+ * vulzhedor_same_bargains writes them, and then the other three keep what they held.
+ */
+uint32_t vulzhedor_better_bargain(const uint8_t *first, size_t first_length, const uint8_t *second, size_t second_length,
+                                  uint32_t *better, uint32_t *length, uint64_t *cost, uint32_t *about, uint64_t *carried);
 
 #ifdef __cplusplus
 }

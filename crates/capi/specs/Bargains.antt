@@ -2,7 +2,7 @@
 use Rattle.std.specs.Prelude.{◌≡◌, ℕ, Bool, cond, List, Some, None, Ok, Err, Option, Result, ◌==◌}
 use Rattle.costs.specs.Cents.{cents_kind}
 use Rattle.numbers.specs.Input.{value_of}
-use Rattle.planner.specs.Bargain.{Verdict}
+use Rattle.model.specs.Bargain.{Verdict}
 use Rattle.keyinput.specs.Batch.{Offer, batch_in}
 use Rattle.keyanswer.specs.Compare.{RefusedAt, offered}
 
@@ -30,9 +30,10 @@ abbrev pub carried_after : Result Bool RefusedAt → ℕ → ℕ
 carried_after (Ok equal) was = was
 carried_after (Err at) was = told_value at.refused.carried
 
--- where the status is 0, the verdict is right for what the two inputs spell: 1 exactly when each assignment of either has
--- one of the other that is no longer and no dearer, and exactly when every budget and every deadline is answered alike
+-- where the status is 0, the verdict, 1 for equal, is right for the cards and sheets that the two inputs spell: the whole
+-- statement holds of it
 abbrev pub RightlyJudged : List ℕ → List ℕ → ℕ → ℕ → Type 0
-RightlyJudged first second status equal =
-    status ≡ 0 → (mine yours : Offer) → value_of (batch_in first) ≡ Ok mine → value_of (batch_in second) ≡ Ok yours
-    → Verdict cents_kind (offered mine) mine.book (offered yours) yours.book (equal == 1)
+RightlyJudged first_input second_input status equal =
+    status ≡ 0
+    → (first second : Offer) → value_of (batch_in first_input) ≡ Ok first → value_of (batch_in second_input) ≡ Ok second
+    → Verdict cents_kind (offered first) first.book (offered second) second.book (equal == 1)

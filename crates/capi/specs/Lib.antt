@@ -1,3 +1,4 @@
 pub mod Status
 pub mod Quote
 pub mod Bargains
+pub mod Better

@@ -9,7 +9,7 @@ use keyanswer::{CompareRefusal, compare_batches};
 use refusals::Refusal;
 
 // The input that a refusal is about: 1, 2, or 0 for both.
-fn input_about(refusal: CompareRefusal) -> u32
+pub(crate) fn input_about(refusal: CompareRefusal) -> u32
     ensures { result ≡ which_input refusal }
 {
     match refusal {
@@ -20,7 +20,7 @@ fn input_about(refusal: CompareRefusal) -> u32
 }
 
 // The value that a refusal carries, or the greatest number where it carries none.
-fn value_told(carried: Option<usize>) -> u64
+pub(crate) fn value_told(carried: Option<usize>) -> u64
     ensures { result ≡ told_value carried }
 {
     carried.map_or(u64::MAX, |value| value as u64)

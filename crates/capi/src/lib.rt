@@ -4,11 +4,14 @@
 
 mod answer;
 mod bargains;
+mod better;
+mod by_place;
 mod charge;
 mod quote;
 mod status;
 
 pub use answer::vulzhedor_answer;
 pub use bargains::vulzhedor_same_bargains;
+pub use better::vulzhedor_better_bargain;
 pub use charge::vulzhedor_charge;
 pub use quote::vulzhedor_quote;

@@ -5,6 +5,7 @@ mod choices;
 mod filling;
 mod layout;
 mod memory;
+mod plain;
 mod quotes;
 mod refusal;
 mod spans;

@@ -1,27 +1,29 @@
-// `charges WORK SPEED RATE [SPEED RATE ..]` prints what each machine on these terms quotes for the work.
+//! `charges WORK SPEED RATE [SPEED RATE ..]` prints what each machine on these terms quotes for the work.
 #![tactic(auto)]
 
-ghost use Rattle.std.specs.Prelude.{◌≤◌, length};
-ghost use Rattle.std.specs.Result.{IfOk};
+ghost use Rattle.std.specs.Prelude.{OnOk};
+ghost use Rattle.std.specs.Io.KnownBytes.{Appends};
+ghost use Rattle.hire.specs.Answer.{hire_text};
 
-use anyhow::anyhow;
-use hire::{Hire, HireRefusal, Terms, read_hire, write_quote};
-use std::env;
+use hire::{HIRE_TEXT_BYTES, Terms, write_hire};
 use std::io::Write;
-use tariffs::Tariff;
-use texts::{TooShort, read_number, write_refusal};
+use std::process::ExitCode;
+use std::{env, io};
+use texts::read_number;
 
 const USAGE: &str = "usage: charges WORK SPEED RATE [SPEED RATE ..]
   WORK   units of work, 1 to 1,000,000
   SPEED  units a minute of a machine, 1 to 10,000
   RATE   its rate in cents an hour, 0 to 1,000,000
-Prints a line for each machine, from 0 on: its number, its minutes and its cents, or
-`none` where it needs more than 1,440 minutes. A number out of range prints `refused`,
-the refusal's number and which argument it is about.
+Prints a line for each of at most 32 machines, from 0 on: its number, its minutes and
+its cents, or `none` where it needs more than 1,440 minutes. A number out of range and
+a 33rd machine print `refused`, the refusal's number (3 for the work, 4 for the 33rd
+machine, 5 for a speed or a rate) and which argument it is about, of a machine too many
+its speed. Ends with status 0, or 2 where it is used in another way than this.
 ";
 
-// How many bytes of memory a line is given.
-const LINE_LEN: usize = 64;
+// The status of a program that is used in another way than its usage says.
+const MISUSED: u8 = 2;
 
 // The arguments as numbers, or none where one is no number.
 fn read_arguments(rt: &HostRuntime) -> anyhow::Result<Option<Vec<u32>>> {
@@ -32,28 +34,14 @@ fn read_arguments(rt: &HostRuntime) -> anyhow::Result<Option<Vec<u32>>> {
     Ok(numbers)
 }
 
-// Prints the line of this length at the start of the memory, if it fitted there.
-fn print_line(rt: &HostRuntime, memory: &[u8], len: Result<usize, TooShort>) -> anyhow::Result<()>
-    requires { IfOk len (λ n. n ≤ length memory.now) }
+// Writes the lines of a hire and nothing else.
+fn write_answer<W: Write>(work: u32, terms: &[Terms], out: &mut W) -> io::Result<()>
+    ensures { OnOk result
+        (Appends (W.contents out.old) (W.contents out.new) (hire_text work terms.now)) }
 {
-    let len = len.map_err(|_| anyhow!("a line is too long"))?;
-    rt.stdout().write_all(&memory[..len])?;
-    Ok(())
-}
-
-fn print_quotes(rt: &HostRuntime, hire: &Hire) -> anyhow::Result<()> {
-    let mut memory = [0; LINE_LEN];
-    for machine in 0..hire.card.machines() {
-        let len = write_quote(&hire.card, machine, hire.work, &mut memory);
-        print_line(rt, &memory, len)?;
-    }
-    Ok(())
-}
-
-fn print_refusal(rt: &HostRuntime, refusal: HireRefusal) -> anyhow::Result<()> {
-    let mut memory = [0; LINE_LEN];
-    let len = write_refusal(&refusal, &mut memory);
-    print_line(rt, &memory, len)
+    let mut text = [0; HIRE_TEXT_BYTES];
+    let written = write_hire(work, terms, &mut text);
+    out.write_all(&text[..written])
 }
 
 // Prints the quotes for a work, or why they are refused; each machine's terms are a speed and a rate.
@@ -65,20 +53,19 @@ fn print_answer(rt: &HostRuntime, work: u32, pairs: &[[u32; 2]]) -> anyhow::Resu
             rate: *rate,
         })
         .collect::<Vec<_>>(rt.alloc())?;
-    match read_hire(work, &terms) {
-        Ok(hire) => print_quotes(rt, &hire),
-        Err(refusal) => print_refusal(rt, refusal),
-    }
+    write_answer(work, &terms, &mut rt.stdout())?;
+    Ok(())
 }
 
-fn main(rt: HostRuntime) -> anyhow::Result<()> {
+fn main(rt: HostRuntime) -> anyhow::Result<ExitCode> {
     let numbers = read_arguments(&rt)?;
     if let Some([work, offers @ ..]) = numbers.as_deref()
         && let (pairs, []) = offers.as_chunks()
         && !pairs.is_empty()
     {
-        return print_answer(&rt, *work, pairs);
+        print_answer(&rt, *work, pairs)?;
+        return Ok(ExitCode::SUCCESS);
     }
-    rt.print(USAGE)?;
-    Ok(())
+    rt.stderr().write_all(USAGE.as_bytes())?;
+    Ok(ExitCode::from(MISUSED))
 }

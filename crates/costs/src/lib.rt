@@ -4,6 +4,7 @@
 mod cents;
 mod cost;
 mod grade;
+mod plain;
 mod written;
 
 pub use cents::Cents;

@@ -1,6 +1,8 @@
 // What the questions have to answer, found by trying every assignment.
 use crate::batch::Batch;
 use crate::kind::NEUTRAL;
+use crate::lent::Sizes;
+use crate::limit::Limit;
 use crate::pair::Pair;
 use crate::told::Told;
 use std::alloc::{AllocError, Global};
@@ -12,11 +14,11 @@ pub(crate) struct PlainCell {
     pub(crate) cost: u64,
 }
 
-// How many cells are lent, and how many points or bytes of a plan.
-#[derive(Clone, Copy, Drop, Debug)]
-pub(crate) struct Sizes {
-    pub(crate) cells: usize,
-    pub(crate) results: usize,
+// The better bargain of two sheets: which sheet has it, and its pair.
+#[derive(Clone, Copy, Drop, PartialEq, Eq, Debug)]
+pub(crate) enum PlainBetter {
+    First(Pair),
+    Second(Pair),
 }
 
 // All that the questions about a batch rest on.
@@ -90,7 +92,7 @@ impl Answers {
     pub(crate) fn front_count(&self, sizes: Sizes) -> Result<usize, Told> {
         if sizes.cells < self.cells.len() {
             Err(Told::bare(7))
-        } else if sizes.results < self.front.len() {
+        } else if sizes.points < self.front.len() {
             Err(Told::bare(8))
         } else {
             Ok(self.front.len())
@@ -101,7 +103,7 @@ impl Answers {
     fn limit_refusal(&self, sizes: Sizes) -> Option<Told> {
         if sizes.cells < self.cells.len() {
             Some(Told::bare(7))
-        } else if sizes.results < self.batch.numbers {
+        } else if sizes.plan < self.batch.numbers {
             Some(Told::bare(8))
         } else {
             self.batch.unquoted().map(|task| Told::carrying(9, task))
@@ -109,29 +111,53 @@ impl Answers {
     }
 
     // The least length at a cost of at most the limit, and the least cost at that length.
-    pub(crate) fn budget(&self, limit: u64, sizes: Sizes) -> Result<Pair, Told> {
-        if let Some(told) = self.limit_refusal(sizes) {
-            return Err(told);
-        }
+    fn budget(&self, limit: u64) -> Option<Pair> {
         self.pairs
             .iter()
             .filter(|pair| pair.cost <= limit)
             .min_by_key(|pair| (pair.length, pair.cost))
             .copied()
-            .ok_or(Told::bare(10))
     }
 
     // The least cost at a length of at most the limit, and the least length at that cost.
-    pub(crate) fn deadline(&self, limit: u32, sizes: Sizes) -> Result<Pair, Told> {
-        if let Some(told) = self.limit_refusal(sizes) {
-            return Err(told);
-        }
+    fn deadline(&self, limit: u32) -> Option<Pair> {
         self.pairs
             .iter()
             .filter(|pair| pair.length <= limit)
             .min_by_key(|pair| (pair.cost, pair.length))
             .copied()
-            .ok_or(Told::bare(10))
+    }
+
+    // The best pair within the limit.
+    pub(crate) fn best(&self, limit: Limit, sizes: Sizes) -> Result<Pair, Told> {
+        if let Some(told) = self.limit_refusal(sizes) {
+            return Err(told);
+        }
+        let best = match limit {
+            Limit::Budget(cost) => self.budget(cost),
+            Limit::Deadline(minutes) => self.deadline(minutes),
+        };
+        best.ok_or(Told::bare(10))
+    }
+
+    // The shortest pair that no pair of the others is as good as, of that length the cheapest.
+    fn unmatched_by(&self, others: &Answers) -> Option<Pair> {
+        self.pairs
+            .iter()
+            .filter(|pair| !others.pairs.iter().any(|other| other.is_within(**pair)))
+            .min_by_key(|pair| (pair.length, pair.cost))
+            .copied()
+    }
+
+    // The better bargain of two sheets, none where for every assignment of either the other has one as good.
+    pub(crate) fn better(&self, others: &Answers) -> Option<PlainBetter> {
+        let first = self.unmatched_by(others);
+        let second = others.unmatched_by(self);
+        match (first, second) {
+            (Some(pair), Some(other)) if other.precedes(pair) => Some(PlainBetter::Second(other)),
+            (Some(pair), _) => Some(PlainBetter::First(pair)),
+            (None, other) => other.map(PlainBetter::Second),
+        }
     }
 
     // Whether for every assignment the others have one that is no longer and no dearer.

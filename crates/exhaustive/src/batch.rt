@@ -1,8 +1,13 @@
 // A sheet under a tariff: its standing tasks with all that machines quote for them.
+use crate::assignments::STAGES;
 use crate::book::{Book, Entry};
 use crate::kind::Kind;
 use crate::prices::{MOST_MACHINES, Offer, Prices};
 use std::alloc::{AllocError, Global};
+
+const MOST_ASSIGNMENTS: usize = 1_100;
+
+const MOST_LISTS: usize = 20_000;
 
 // A standing task, and the machines that quote it, by number.
 #[derive(Drop)]
@@ -94,5 +99,22 @@ impl Batch {
             .iter()
             .find(|task| task.offers.is_empty())
             .map(|task| task.number)
+    }
+
+    // The cells that a question needs.
+    pub(crate) fn cells_needed(&self) -> usize {
+        let columns = (self.span() as usize).saturating_add(1);
+        self.stages.saturating_add(1).saturating_mul(columns)
+    }
+
+    // Whether there are so few assignments and allowance lists that all of them can be tried.
+    pub(crate) fn can_be_tried(&self) -> bool {
+        let assignments = self.standing.iter().fold(1, |product: usize, task| {
+            product.saturating_mul(task.offers.len().max(1))
+        });
+        let lists = (1..self.stages).fold(1, |product: usize, _stage| {
+            product.saturating_mul((self.span() as usize).saturating_add(1))
+        });
+        self.stages < STAGES && assignments <= MOST_ASSIGNMENTS && lists <= MOST_LISTS
     }
 }

@@ -22,6 +22,12 @@ pub(crate) struct Book {
     pub(crate) entries: Vec<Entry>,
 }
 
+impl Entry {
+    pub(crate) fn stands_in(&self, stage: usize) -> bool {
+        self.stage == stage && !self.struck
+    }
+}
+
 pub(crate) fn is_work(work: u32) -> bool {
     0 < work && work <= MOST_WORK
 }

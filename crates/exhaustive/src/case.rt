@@ -5,7 +5,7 @@ use crate::kind::Kind;
 use crate::report::{Outcome, Question, Report};
 use crate::told::Told;
 use sheets::{Call, Sheet, Task};
-use std::alloc::{AllocError, Global};
+use std::alloc::Global;
 use trials::Sequence;
 
 // A sheet as its calls made it, and the book of the same calls.
@@ -23,6 +23,12 @@ fn entry_of(task: &Task) -> Entry {
     }
 }
 
+// Whether the sheet holds what the book says.
+pub(crate) fn is_by_the_book(sheet: &Sheet, book: &Book) -> bool {
+    let entries = sheet.tasks().iter().map(entry_of);
+    sheet.stage_count() == book.stages && entries.eq(book.entries.iter().copied())
+}
+
 impl Case {
     pub(crate) fn opened(heap: Global) -> Case {
         Case {
@@ -31,25 +37,14 @@ impl Case {
         }
     }
 
-    // Whether the sheet holds what the book says.
-    fn is_by_the_book(&self) -> bool {
-        self.sheet.stage_count() == self.book.stages
-            && self
-                .sheet
-                .tasks()
-                .iter()
-                .map(entry_of)
-                .eq(self.book.entries.iter().copied())
-    }
-
     // Carries a call out, and compares.
-    fn call(&mut self, report: &mut Report, call: Call) -> anyhow::Result<()> {
+    pub(crate) fn call(&mut self, report: &mut Report, call: Call) -> anyhow::Result<()> {
         let answer = self.sheet.perform(call).map_err(Told::of);
         let wanted = self.book.call(call)?;
         report.note(
             Question::Call,
             Outcome {
-                same: answer == wanted && self.is_by_the_book(),
+                same: answer == wanted && is_by_the_book(&self.sheet, &self.book),
                 refused: wanted.err(),
             },
         )

@@ -1,6 +1,8 @@
 // Sheets, prices and limits that look random.
 use crate::book::Book;
-use crate::kind::Kind;
+use crate::given::Charge;
+use crate::kind::{Kind, MOST_CENTS};
+use crate::pair::Pair;
 use crate::prices::Terms;
 use sheets::Call;
 use tariffs::Row;
@@ -72,13 +74,43 @@ pub(crate) fn place(numbers: &mut Sequence, count: usize) -> usize {
     numbers.next(0, count) as usize
 }
 
-// A place in so many values, now and then the one past them.
+// A number that is none of so many, just past them or far. One that is cut to 32 bits is again one of them.
+fn past(numbers: &mut Sequence, count: usize) -> usize {
+    match numbers.next(0, 6) {
+        0 => usize::MAX,
+        1 => u32::MAX as usize,
+        2 => place(numbers, count).saturating_add(1 << 32),
+        3 => count.saturating_add(place(numbers, 1_000)),
+        _ => count,
+    }
+}
+
+// A place in so many values, now and then one past them.
 fn index(numbers: &mut Sequence, count: usize) -> usize {
     if one_in(numbers, 12) {
-        count
+        past(numbers, count)
     } else {
         place(numbers, count)
     }
+}
+
+// Memory of about the size that is needed: none, much too little, one too little, enough, or more.
+pub(crate) fn about(numbers: &mut Sequence, needed: usize) -> usize {
+    match numbers.next(0, 32) {
+        0 => 0,
+        1 => place(numbers, needed),
+        2..=5 => needed.saturating_sub(1),
+        6..=20 => needed,
+        _ => needed.saturating_add(numbers.next(1, 5) as usize),
+    }
+}
+
+// One of these pairs.
+pub(crate) fn pair(numbers: &mut Sequence, pairs: &[Pair]) -> Pair {
+    pairs
+        .get(place(numbers, pairs.len()))
+        .copied()
+        .unwrap_or(Pair { length: 0, cost: 0 })
 }
 
 fn pick(numbers: &mut Sequence, choices: &[u32]) -> u32 {
@@ -86,7 +118,7 @@ fn pick(numbers: &mut Sequence, choices: &[u32]) -> u32 {
     choices.get(place).copied().unwrap_or(0)
 }
 
-fn work(numbers: &mut Sequence, kind: Kind, scale: Scale) -> u32 {
+pub(crate) fn work(numbers: &mut Sequence, kind: Kind, scale: Scale) -> u32 {
     match numbers.next(0, 32) {
         0 => 0,
         1 => 1_000_001,
@@ -141,6 +173,23 @@ pub(crate) fn terms(numbers: &mut Sequence) -> Terms {
         _ => pick(numbers, &RATES),
     };
     Terms { speed, rate }
+}
+
+// A charge, at the greatest cost or near it as often as not.
+pub(crate) fn charge(numbers: &mut Sequence, scale: Scale) -> Charge {
+    let minutes = match numbers.next(0, 24) {
+        0 => 0,
+        1 => 1_441,
+        _ => numbers.next(1, scale.minutes),
+    };
+    let cents = match numbers.next(0, 8) {
+        0 => MOST_CENTS,
+        1 => MOST_CENTS.saturating_sub(u64::from(numbers.next(0, 10))),
+        2 => (MOST_CENTS / 2).saturating_sub(u64::from(numbers.next(0, 3))),
+        3 => u64::MAX,
+        _ => u64::from(numbers.next(0, 20)),
+    };
+    Charge { minutes, cents }
 }
 
 // A row with one number out of range.

@@ -1,6 +1,6 @@
 // Cost kinds, with costs as plain numbers.
 
-#[derive(Clone, Copy, PartialEq, Eq, Debug)]
+#[derive(Clone, Copy, Drop, PartialEq, Eq, Debug)]
 pub(crate) enum Kind {
     Cents,
     Grades,
@@ -9,7 +9,7 @@ pub(crate) enum Kind {
 // The neutral cost of both kinds.
 pub(crate) const NEUTRAL: u64 = 0;
 
-const MOST_CENTS: u64 = 1_000_000_000_000_000;
+pub(crate) const MOST_CENTS: u64 = 1_000_000_000_000_000;
 
 impl Kind {
     pub(crate) fn join(self, first: u64, second: u64) -> u64 {

@@ -1,110 +1,66 @@
-// Cards and tables, and the prices that they have by the rules.
-use crate::draw::{self, Scale};
+// Sheets with prices for them.
+use crate::answers::Answers;
+use crate::batch::Batch;
+use crate::case::Case;
+use crate::draw::{Scale, one_in};
 use crate::kind::Kind;
-use crate::prices::{Prices, Terms, line_answer, rows_answer};
-use crate::report::{Outcome, Question, Report};
-use crate::told::Told;
-use tariffs::{RateCard, Row, check_rows};
+use crate::prices::Prices;
+use crate::report::Report;
 use trials::Sequence;
 
-// Adds lines to a card, and compares. Returns those that it took.
-fn draw_lines(
-    report: &mut Report,
-    numbers: &mut Sequence,
-    count: u32,
-) -> anyhow::Result<Vec<Terms>> {
-    let mut card = RateCard::new();
-    let mut lines = Vec::new(report.rt.alloc());
-    for _ in 0..count {
-        let line = draw::terms(numbers);
-        let answer = card.add(line.speed, line.rate).map_err(Told::of);
-        let wanted = line_answer(&lines, line);
-        report.note(
-            Question::Line,
-            Outcome {
-                same: answer == wanted,
-                refused: wanted.err(),
-            },
-        )?;
-        if wanted.is_ok() {
-            lines.push(line)?;
-        }
-    }
-    Ok(lines)
+#[derive(Drop)]
+pub(crate) struct Offered {
+    pub(crate) case: Case,
+    pub(crate) prices: Prices,
 }
 
-// Draws rows, and compares what the check tells of them.
-fn draw_rows(
-    report: &mut Report,
-    numbers: &mut Sequence,
-    scale: Scale,
-    count: u32,
-) -> anyhow::Result<Vec<Row>> {
-    let mut rows = Vec::new(report.rt.alloc());
-    for _ in 0..count {
-        rows.push(draw::row(numbers, scale))?;
-    }
-    let answer = check_rows(&rows).map_err(Told::of);
-    let wanted = rows_answer(&rows);
-    report.note(
-        Question::Rows,
-        Outcome {
-            same: answer == wanted,
-            refused: wanted.err(),
-        },
-    )?;
-    Ok(rows)
-}
-
-impl Prices {
-    // A card of at most so many lines, or a table of at most so many rows.
+impl Offered {
     pub(crate) fn drawn(
         report: &mut Report,
         numbers: &mut Sequence,
         kind: Kind,
         scale: Scale,
-    ) -> anyhow::Result<Prices> {
-        match kind {
-            Kind::Cents => {
-                let count = numbers.next(0, scale.lines.saturating_add(1));
-                draw_lines(report, numbers, count).map(Prices::Card)
-            }
-            Kind::Grades => {
-                let count = numbers.next(0, scale.rows.saturating_add(1));
-                draw_rows(report, numbers, scale, count).map(Prices::Table)
-            }
+    ) -> anyhow::Result<Offered> {
+        let prices = Prices::drawn(report, numbers, kind, scale)?;
+        let mut case = Case::opened(report.rt.alloc());
+        let count = numbers.next(0, scale.calls.saturating_add(1));
+        case.draw_calls(report, numbers, kind, scale, count)?;
+        Ok(Offered { case, prices })
+    }
+
+    // The same sheet and the same prices in another order: they offer the same bargains.
+    pub(crate) fn turned(&self, report: &mut Report) -> anyhow::Result<Offered> {
+        let prices = self.prices.turned(report.rt.alloc())?;
+        let case = self.case.turned(report)?;
+        Ok(Offered { case, prices })
+    }
+
+    // Another sheet of the same cost kind: in half of the cases one that offers the same bargains.
+    pub(crate) fn other(
+        &self,
+        report: &mut Report,
+        numbers: &mut Sequence,
+        scale: Scale,
+    ) -> anyhow::Result<Offered> {
+        if one_in(numbers, 2) {
+            Offered::drawn(report, numbers, self.prices.kind(), scale)
+        } else {
+            self.turned(report)
         }
     }
 
-    // The same prices on machines of other numbers.
-    pub(crate) fn turned(&self, report: &Report) -> anyhow::Result<Prices> {
+    pub(crate) fn print(&self, report: &Report) -> anyhow::Result<()> {
+        let rt = report.rt;
+        let book = &self.case.book;
+        let prices = &self.prices;
+        println!(rt; "{book:?}")?;
+        println!(rt; "{prices:?}")?;
+        Ok(())
+    }
+
+    pub(crate) fn answers(&self, report: &Report) -> anyhow::Result<Answers> {
         let heap = report.rt.alloc();
-        match self {
-            Prices::Card(lines) => {
-                let turned = lines.iter().rev().copied().collect(heap)?;
-                Ok(Prices::Card(turned))
-            }
-            Prices::Table(rows) => {
-                let turned = rows
-                    .iter()
-                    .map(|row| {
-                        Row {
-                            machine: 31u32.saturating_sub(row.machine),
-                            ..*row
-                        }
-                    })
-                    .collect(heap)?;
-                Ok(Prices::Table(turned))
-            }
-        }
+        let batch = Batch::priced(heap, &self.case.book, &self.prices)?;
+        Ok(Answers::of(heap, batch)?)
     }
-}
-
-// The card of lines that a card took.
-pub(crate) fn card_of(lines: &[Terms]) -> RateCard {
-    let mut card = RateCard::new();
-    for line in lines {
-        let _ = card.add(line.speed, line.rate);
-    }
-    card
 }

@@ -13,6 +13,11 @@ impl Pair {
         self.length <= other.length && self.cost <= other.cost
     }
 
+    // Whether it is shorter, or as long and cheaper.
+    pub(crate) fn precedes(self, other: Pair) -> bool {
+        (self.length, self.cost) < (other.length, other.cost)
+    }
+
     pub(crate) fn beats(self, other: Pair) -> bool {
         self.is_within(other) && self != other
     }

@@ -1,6 +1,7 @@
 // What machines quote, by the rules of the rate card and of the quote table.
 use crate::book::is_work;
-use crate::kind::Kind;
+use crate::given::{Charge, GIVEN_MACHINES, WORK_CLASSES};
+use crate::kind::{Kind, MOST_CENTS};
 use crate::told::Told;
 use tariffs::Row;
 
@@ -29,11 +30,16 @@ pub(crate) struct Offer {
     pub(crate) cost: u64,
 }
 
-// The lines that a card has taken, or the rows over which a table stands.
 #[derive(Drop, Debug)]
 pub(crate) enum Prices {
+    // The lines that a card has taken.
     Card(Vec<Terms>),
+    // The rows over which a table stands.
     Table(Vec<Row>),
+    // The charges of the tariff that is none of the library's.
+    Given(Vec<Charge>),
+    // No quote at all, in one of the cost kinds.
+    Never(Kind),
 }
 
 impl Terms {
@@ -104,18 +110,32 @@ fn table_offer(rows: &[Row], machine: usize, work: u32) -> Option<Offer> {
     })
 }
 
+fn given_offer(charges: &[Charge], machine: usize, work: u32) -> Option<Offer> {
+    let class = work as usize % WORK_CLASSES;
+    let place = machine.saturating_mul(WORK_CLASSES).saturating_add(class);
+    let charge = charges.get(place)?;
+    let is_quoted = machine < GIVEN_MACHINES && (1..=MOST_MINUTES).contains(&charge.minutes);
+    is_quoted.then_some(Offer {
+        machine,
+        minutes: charge.minutes,
+        cost: charge.cents.min(MOST_CENTS),
+    })
+}
+
 impl Prices {
     pub(crate) fn kind(&self) -> Kind {
         match self {
-            Prices::Card(_) => Kind::Cents,
+            Prices::Card(_) | Prices::Given(_) => Kind::Cents,
             Prices::Table(_) => Kind::Grades,
+            Prices::Never(kind) => *kind,
         }
     }
 
     pub(crate) fn machines(&self) -> usize {
         match self {
             Prices::Card(lines) => lines.len(),
-            Prices::Table(_) => MOST_MACHINES,
+            Prices::Given(_) => GIVEN_MACHINES,
+            Prices::Table(_) | Prices::Never(_) => MOST_MACHINES,
         }
     }
 
@@ -126,6 +146,8 @@ impl Prices {
         match self {
             Prices::Card(lines) => card_offer(lines, machine, work),
             Prices::Table(rows) => table_offer(rows, machine, work),
+            Prices::Given(charges) => given_offer(charges, machine, work),
+            Prices::Never(_) => None,
         }
     }
 }

@@ -1,14 +1,13 @@
 // The questions of the planner, asked and compared.
-use crate::answers::{Answers, PlainCell, Sizes};
-use crate::lent::{
-    bytes_begin, cells_begin, lend_bytes, lend_cells, lend_points, pair_of, points_begin,
-};
+use crate::answers::{Answers, PlainBetter, PlainCell};
+use crate::lent::{Contents, Memory, Sizes, Written, pair_of};
+use crate::limit::Limit;
 use crate::pair::Pair;
 use crate::prices::{MOST_MACHINES, Offer, Prices};
 use crate::report::{Outcome, Question, Report};
 use crate::told::Told;
-use model::PricedSheet;
-use planner::{budget, deadline, front, same_bargains};
+use model::{Better, PricedSheet};
+use planner::{better_bargain, budget, deadline, front, same_bargains};
 use std::alloc::{AllocError, Global};
 use tariffs::Tariff;
 use trials::Amount;
@@ -18,29 +17,6 @@ use trials::Amount;
 pub(crate) struct Asked<'a, T> {
     pub(crate) priced: PricedSheet<'a, T>,
     pub(crate) answers: &'a Answers,
-}
-
-#[derive(Clone, Copy, Drop)]
-pub(crate) enum Limit {
-    Budget(u64),
-    Deadline(u32),
-}
-
-impl Limit {
-    fn question(self) -> Question {
-        match self {
-            Limit::Budget(_) => Question::Budget,
-            Limit::Deadline(_) => Question::Deadline,
-        }
-    }
-}
-
-// How much memory is lent to a comparison.
-#[derive(Clone, Copy, Drop)]
-pub(crate) struct Lent {
-    pub(crate) cells: usize,
-    pub(crate) first_points: usize,
-    pub(crate) second_points: usize,
 }
 
 fn offer_of<T: Tariff>(tariff: &T, machine: usize, work: u32) -> Option<Offer>
@@ -56,7 +32,7 @@ where
     })
 }
 
-// Asks what every machine quotes for the work, and one that is not there.
+// Asks what every machine quotes for the work, and some that are not there.
 pub(crate) fn ask_quotes<T: Tariff>(
     report: &mut Report,
     tariff: &T,
@@ -67,14 +43,16 @@ where
     T::Cost: Amount,
 {
     let same = tariff.machines() == prices.machines()
-        && (0..=MOST_MACHINES).all(|machine| offer_of(tariff, machine, work)
-            == prices.offer(machine, work));
+        && (0..=MOST_MACHINES)
+            .chain([u32::MAX as usize, usize::MAX])
+            .all(|machine| offer_of(tariff, machine, work) == prices.offer(machine, work));
     let refused = None;
     report.note(Question::Quotes, Outcome { same, refused })
 }
 
 pub(crate) fn ask_front<T: Tariff>(
     report: &mut Report,
+    memory: &mut Memory<T::Cost>,
     asked: &Asked<T>,
     sizes: Sizes,
 ) -> anyhow::Result<()>
@@ -82,20 +60,23 @@ where
     T::Cost: Amount,
 {
     let heap = report.rt.alloc();
-    let mut cells = lend_cells::<T::Cost>(heap, sizes.cells)?;
-    let mut points = lend_points::<T::Cost>(heap, sizes.results)?;
-    let answer = front(&asked.priced, &mut cells, &mut points).map_err(Told::of);
+    let before = memory.lend(heap, sizes)?;
+    let answer = front(&asked.priced, &mut memory.cells, &mut memory.points).map_err(Told::of);
     let wanted = asked.answers.front_count(sizes);
     let filled = wanted != Err(Told::bare(7));
-    let same = answer == wanted
-        && cells_begin(&cells, asked.answers.cells_if(filled))
-        && points_begin(&points, asked.answers.front_if(wanted.is_ok()));
+    let written = Written {
+        cells: asked.answers.cells_if(filled),
+        points: asked.answers.front_if(wanted.is_ok()),
+        second_points: &[],
+        plan: &[],
+    };
+    let same = answer == wanted && memory.holds(heap, &before, &written)?;
     let refused = wanted.err();
     report.note(Question::Front, Outcome { same, refused })
 }
 
 // The plan of an answer, if it has one.
-fn plan_wanted(
+pub(crate) fn plan_wanted(
     heap: Global,
     answers: &Answers,
     wanted: Result<Pair, Told>,
@@ -106,8 +87,29 @@ fn plan_wanted(
     }
 }
 
+fn ask_planner<T: Tariff>(
+    memory: &mut Memory<T::Cost>,
+    priced: &PricedSheet<T>,
+    limit: Limit,
+) -> Result<Pair, Told>
+where
+    T::Cost: Amount,
+{
+    let answer = match limit {
+        Limit::Budget(cost) => {
+            let most = T::Cost::of(cost);
+            budget(priced, most, &mut memory.cells, &mut memory.plan)
+        }
+        Limit::Deadline(minutes) => {
+            deadline(priced, minutes, &mut memory.cells, &mut memory.plan)
+        }
+    };
+    answer.map(pair_of).map_err(Told::of)
+}
+
 pub(crate) fn ask_limit<T: Tariff>(
     report: &mut Report,
+    memory: &mut Memory<T::Cost>,
     asked: &Asked<T>,
     limit: Limit,
     sizes: Sizes,
@@ -116,23 +118,19 @@ where
     T::Cost: Amount,
 {
     let heap = report.rt.alloc();
-    let mut cells = lend_cells::<T::Cost>(heap, sizes.cells)?;
-    let mut plan = lend_bytes(heap, sizes.results)?;
-    let (answer, wanted) = match limit {
-        Limit::Budget(cost) => (
-            budget(&asked.priced, T::Cost::of(cost), &mut cells, &mut plan),
-            asked.answers.budget(cost, sizes),
-        ),
-        Limit::Deadline(minutes) => (
-            deadline(&asked.priced, minutes, &mut cells, &mut plan),
-            asked.answers.deadline(minutes, sizes),
-        ),
-    };
+    let before = memory.lend(heap, sizes)?;
+    let answer = ask_planner(memory, &asked.priced, limit);
+    let wanted = asked.answers.best(limit, sizes);
     let filled = wanted.is_ok() || wanted == Err(Told::bare(10));
-    let bytes_wanted = plan_wanted(heap, asked.answers, wanted)?;
-    let same = answer.map(pair_of).map_err(Told::of) == wanted
-        && cells_begin(&cells, asked.answers.cells_if(filled))
-        && bytes_begin(&plan, &bytes_wanted)
+    let plan = plan_wanted(heap, asked.answers, wanted)?;
+    let written = Written {
+        cells: asked.answers.cells_if(filled),
+        points: &[],
+        second_points: &[],
+        plan: &plan,
+    };
+    let same = answer == wanted
+        && memory.holds(heap, &before, &written)?
         && wanted
             .ok()
             .is_none_or(|pair| asked.answers.batch.pair_under(&plan) == Some(pair));
@@ -140,79 +138,147 @@ where
     report.note(limit.question(), Outcome { same, refused })
 }
 
-impl Lent {
-    fn has_cells_for(self, first: &Answers, second: &Answers) -> bool {
-        self.cells >= first.cells.len() && self.cells >= second.cells.len()
-    }
-
-    fn holds_first(self, first: &Answers) -> bool {
-        self.first_points >= first.front.len()
-    }
-
-    fn holds_second(self, second: &Answers) -> bool {
-        self.second_points >= second.front.len()
-    }
+// Two sheets that are compared, and how much memory is lent for it.
+#[derive(Clone, Copy)]
+pub(crate) struct Compared<'a> {
+    pub(crate) first: &'a Answers,
+    pub(crate) second: &'a Answers,
+    pub(crate) sizes: Sizes,
 }
 
-// What the comparison has to answer.
-fn verdict(first: &Answers, second: &Answers, lent: Lent) -> Result<bool, Told> {
-    if !lent.has_cells_for(first, second) {
-        Err(Told::bare(7))
-    } else if !lent.holds_first(first) || !lent.holds_second(second) {
-        Err(Told::bare(8))
-    } else {
-        Ok(first.are_the_same_bargains(second))
+impl<'a> Compared<'a> {
+    fn has_cells(&self) -> bool {
+        self.sizes.cells >= self.first.cells.len() && self.sizes.cells >= self.second.cells.len()
     }
-}
 
-// The cells that the comparison leaves: the first sheet's, and the second's over them.
-fn cells_left(
-    heap: Global,
-    first: &Answers,
-    second: &Answers,
-    lent: Lent,
-) -> Result<Vec<PlainCell>, AllocError> {
-    let filled = lent.has_cells_for(first, second);
-    let again = second.cells_if(filled && lent.holds_first(first));
-    let behind = first
-        .cells_if(filled)
-        .get(again.len()..)
-        .unwrap_or_default();
-    again.iter().chain(behind).copied().collect(heap)
+    fn holds_first(&self) -> bool {
+        self.sizes.points >= self.first.front.len()
+    }
+
+    fn holds_second(&self) -> bool {
+        self.sizes.second_points >= self.second.front.len()
+    }
+
+    // What refuses the comparison.
+    fn refusal(&self) -> Option<Told> {
+        if !self.has_cells() {
+            Some(Told::bare(7))
+        } else if !self.holds_first() || !self.holds_second() {
+            Some(Told::bare(8))
+        } else {
+            None
+        }
+    }
+
+    pub(crate) fn verdict(&self) -> Result<bool, Told> {
+        match self.refusal() {
+            Some(told) => Err(told),
+            None => Ok(self.first.are_the_same_bargains(self.second)),
+        }
+    }
+
+    fn better(&self) -> Result<Option<PlainBetter>, Told> {
+        match self.refusal() {
+            Some(told) => Err(told),
+            None => Ok(self.first.better(self.second)),
+        }
+    }
+
+    // The cells that the comparison leaves: the first sheet's, and the second's over them.
+    fn cells_left(&self, heap: Global) -> Result<Vec<PlainCell>, AllocError> {
+        let again = self.second.cells_if(self.has_cells() && self.holds_first());
+        let behind = self
+            .first
+            .cells_if(self.has_cells())
+            .get(again.len()..)
+            .unwrap_or_default();
+        again.iter().chain(behind).copied().collect(heap)
+    }
+
+    // Whether memory holds what the comparison leaves.
+    fn is_left_in<C: Amount>(
+        &self,
+        heap: Global,
+        memory: &Memory<C>,
+        before: &Contents,
+    ) -> Result<bool, AllocError> {
+        let cells = self.cells_left(heap)?;
+        let written = Written {
+            cells: &cells,
+            points: self.first.front_if(self.has_cells() && self.holds_first()),
+            second_points: self.second.front_if(self.refusal().is_none()),
+            plan: &[],
+        };
+        memory.holds(heap, before, &written)
+    }
 }
 
 pub(crate) fn ask_bargains<T: Tariff, U: Tariff<Cost = T::Cost>>(
     report: &mut Report,
+    memory: &mut Memory<T::Cost>,
     first: &Asked<T>,
     second: &Asked<U>,
-    lent: Lent,
+    sizes: Sizes,
 ) -> anyhow::Result<()>
 where
     T::Cost: Amount,
 {
     let heap = report.rt.alloc();
-    let mut cells = lend_cells::<T::Cost>(heap, lent.cells)?;
-    let mut mine = lend_points::<T::Cost>(heap, lent.first_points)?;
-    let mut yours = lend_points::<T::Cost>(heap, lent.second_points)?;
+    let before = memory.lend(heap, sizes)?;
     let answer = same_bargains(
         &first.priced,
         &second.priced,
-        &mut cells,
-        &mut mine,
-        &mut yours,
+        &mut memory.cells,
+        &mut memory.points,
+        &mut memory.second_points,
     )
     .map_err(Told::of);
-    let (first, second) = (first.answers, second.answers);
-    let wanted = verdict(first, second, lent);
-    if wanted == Ok(true) {
-        report.agreed = report.agreed.saturating_add(1);
+    let compared = Compared {
+        first: first.answers,
+        second: second.answers,
+        sizes,
+    };
+    let wanted = compared.verdict();
+    let same = answer == wanted && compared.is_left_in(heap, memory, &before)?;
+    report.note_verdict(Question::Bargains, wanted, same)
+}
+
+fn plain_better<C: Amount>(better: Better<C>) -> PlainBetter {
+    match better {
+        Better::First(point) => PlainBetter::First(pair_of(point)),
+        Better::Second(point) => PlainBetter::Second(pair_of(point)),
     }
-    let cells_wanted = cells_left(heap, first, second, lent)?;
-    let first_written = lent.has_cells_for(first, second) && lent.holds_first(first);
-    let same = answer == wanted
-        && cells_begin(&cells, &cells_wanted)
-        && points_begin(&mine, first.front_if(first_written))
-        && points_begin(&yours, second.front_if(wanted.is_ok()));
+}
+
+// Asks which sheet has the better bargain.
+pub(crate) fn ask_better<T: Tariff, U: Tariff<Cost = T::Cost>>(
+    report: &mut Report,
+    memory: &mut Memory<T::Cost>,
+    first: &Asked<T>,
+    second: &Asked<U>,
+    sizes: Sizes,
+) -> anyhow::Result<()>
+where
+    T::Cost: Amount,
+{
+    let heap = report.rt.alloc();
+    let before = memory.lend(heap, sizes)?;
+    let answer = better_bargain(
+        &first.priced,
+        &second.priced,
+        &mut memory.cells,
+        &mut memory.points,
+        &mut memory.second_points,
+    )
+    .map(|better| better.map(plain_better))
+    .map_err(Told::of);
+    let compared = Compared {
+        first: first.answers,
+        second: second.answers,
+        sizes,
+    };
+    let wanted = compared.better();
+    let same = answer == wanted && compared.is_left_in(heap, memory, &before)?;
     let refused = wanted.err();
-    report.note(Question::Bargains, Outcome { same, refused })
+    report.note(Question::Better, Outcome { same, refused })
 }

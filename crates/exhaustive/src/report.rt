@@ -12,9 +12,15 @@ pub(crate) enum Question {
     Budget,
     Deadline,
     Bargains,
+    Better,
+    Written,
+    Read,
+    Key,
+    Inputs,
+    Printed,
 }
 
-const QUESTIONS: [Question; 8] = [
+const QUESTIONS: [Question; 14] = [
     Question::Call,
     Question::Line,
     Question::Rows,
@@ -23,10 +29,16 @@ const QUESTIONS: [Question; 8] = [
     Question::Budget,
     Question::Deadline,
     Question::Bargains,
+    Question::Better,
+    Question::Written,
+    Question::Read,
+    Question::Key,
+    Question::Inputs,
+    Question::Printed,
 ];
 
-// The greatest number of a refusal that is met here.
-const REFUSALS: usize = 10;
+// The greatest number of a refusal.
+const REFUSALS: usize = 14;
 
 // What a question came to.
 #[derive(Clone, Copy, Drop)]
@@ -42,7 +54,9 @@ pub(crate) struct Report<'a> {
     pub(crate) sheets: u64,
     pub(crate) differences: u64,
     // How many comparisons found the same bargains.
-    pub(crate) agreed: u64,
+    agreed: u64,
+    // How many inputs had too many assignments to try them.
+    pub(crate) left_out: u64,
     asked: [u64; QUESTIONS.len()],
     refused: [u64; REFUSALS],
 }
@@ -58,6 +72,12 @@ impl Question {
             Question::Budget => "budgets",
             Question::Deadline => "deadlines",
             Question::Bargains => "comparisons of two sheets",
+            Question::Better => "better bargains of two sheets",
+            Question::Written => "sheets written to a file",
+            Question::Read => "files of a sheet read",
+            Question::Key => "inputs answered",
+            Question::Inputs => "comparisons of two inputs",
+            Question::Printed => "printed answers",
         }
     }
 }
@@ -75,6 +95,7 @@ impl<'a> Report<'a> {
             sheets: 0,
             differences: 0,
             agreed: 0,
+            left_out: 0,
             asked: [0; QUESTIONS.len()],
             refused: [0; REFUSALS],
         }
@@ -99,6 +120,26 @@ impl<'a> Report<'a> {
         Ok(())
     }
 
+    // The same for a comparison, with its verdict.
+    pub(crate) fn note_verdict(
+        &mut self,
+        question: Question,
+        wanted: Result<bool, Told>,
+        same: bool,
+    ) -> anyhow::Result<()> {
+        if wanted == Ok(true) {
+            self.agreed = self.agreed.saturating_add(1);
+        }
+        let refused = wanted.err();
+        self.note(question, Outcome { same, refused })
+    }
+
+    // Counts a printed answer, and whether the search through all assignments comes to it.
+    pub(crate) fn note_printed(&mut self, same: bool) -> anyhow::Result<()> {
+        let refused = None;
+        self.note(Question::Printed, Outcome { same, refused })
+    }
+
     fn questions(&self) -> u64 {
         self.asked
             .iter()
@@ -112,7 +153,9 @@ impl<'a> Report<'a> {
             println!(rt; "{name}: {count}")?;
         }
         let agreed = self.agreed;
-        println!(rt; "of these the same bargains: {agreed}")?;
+        println!(rt; "comparisons that found the same bargains: {agreed}")?;
+        let left_out = self.left_out;
+        println!(rt; "inputs left out, with too many assignments: {left_out}")?;
         for (place, count) in self.refused.iter().enumerate() {
             let number = place.saturating_add(1);
             println!(rt; "refused with {number}: {count}")?;

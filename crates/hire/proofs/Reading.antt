@@ -2,10 +2,13 @@
 use Rattle.std.proofs.Common.{◌≡◌, ℕ, ◌+◌, ◌<◌, ◌≤◌, true, false, not, ltb, List, [], ◌∷◌, ◌++◌, map, length, get_or, take, Ok, Err, sym, ap, ◌∙◌, arith}
 use Rattle.std.proofs.lemmas.List.{length-take, length-take-le, length-map, get_or-take, take_all, take_more, map-append}
 use Rattle.std.proofs.lemmas.Bool.{cond-true, cond-false, lt-ltb, le-ltb}
-use Rattle.std.specs.Prelude.{Result}
+use Rattle.std.proofs.lemmas.Option.{slice_get-get_or}
+use Rattle.std.specs.List.{slice_get}
+use Rattle.std.specs.Prelude.{Option, Some, None, Result}
 use Rattle.std.specs.Result.{MatchResult}
 use Rattle.refusals.specs.Answer.{Answer, Refused, answer_of, carrying}
 use Rattle.tariffs.specs.declared.refusal.CardRefusal.{CardRefusal}
+use Rattle.tariffs.specs.declared.refusal.CardRefusal.TheVariants.{Full, OutOfRange}
 use Rattle.tariffs.specs.Refusal.{card_told}
 use Rattle.hire.specs.declared.refusal.HireRefusal.{HireRefusal}
 use Rattle.hire.specs.Refusal.{hire_told}
@@ -15,7 +18,7 @@ use Rattle.tariffs.specs.Line.{line_in_range}
 use Rattle.tariffs.proofs.Cards.{full, outside, obeyed, added, refusal_number}
 use Rattle.tariffs.proofs.Firsts.{Sought, sought_more, sought_here, sought_all}
 use Rattle.hire.specs.declared.terms.Terms.{Terms}
-use Rattle.hire.specs.Hire.{terms_line, out_of_range, speed_argument, card_verdict, card_answer}
+use Rattle.hire.specs.Hire.{terms_line, out_of_range, speed_argument, bad_argument, told_at, card_verdict, card_answer}
 
 -- the first machines' terms are read, none of them refused
 pub record Reading (terms : List Terms) (lines : List Line) (i : ℕ) : Type 0 where
@@ -43,24 +46,31 @@ module _ (terms : List Terms) (lines : List Line) (i : ℕ) (d : Terms) (reading
         ap (λ n. Err (carrying 4 (speed_argument n))) last
         ∙ sym (ap (card_verdict terms) none ∙ cond-true (ltb 32 (length terms)) _ _ (lt-ltb 32 (length terms) many))
 
-    reading_outside : length lines < 32 → line_in_range (get_or terms i d).speed (get_or terms i d).rate ≡ false → ◌≡◌ {A = Answer (List Line)} (Err (carrying 5 (speed_argument i))) (card_answer terms)
+    reading_outside : length lines < 32 → line_in_range (get_or terms i d).speed (get_or terms i d).rate ≡ false → ◌≡◌ {A = Answer (List Line)} (Err (carrying 5 (bad_argument i (get_or terms i d)))) (card_answer terms)
     reading_outside room bad =
         let few : i < 32 = let l = length_so_far in omega arith in
         let found = sought_here out_of_range (take 32 terms) i d (within few) (ap out_of_range (here few) ∙ ap not bad) reading.fine in
-        sym (ap (card_verdict terms) found)
+        let there : slice_get terms i ≡ Some (get_or terms i d) = slice_get-get_or terms i d h in
+        sym (ap (card_verdict terms) found ∙ ap (λ (o : Option Terms). Err (carrying 5 (elim o [ Some t ↦ bad_argument i t | None ↦ speed_argument i ]))) there)
 
-    -- a refused line's number, with the argument, is the answer
-    reading_refused : (refused : Refused) → Err refused ≡ add_answer lines (get_or terms i d).speed (get_or terms i d).rate → ◌≡◌ {A = Answer (List Line)} (Err (carrying refused.number (speed_argument i))) (card_answer terms)
-    reading_refused refused e =
+    -- what is told of a refused line is the answer
+    reading_refused : (refusal : CardRefusal) → Err (card_told refusal) ≡ add_answer lines (get_or terms i d).speed (get_or terms i d).rate → ◌≡◌ {A = Answer (List Line)} (Err (told_at refusal i (get_or terms i d))) (card_answer terms)
+    reading_refused Full e =
         elim (added lines (get_or terms i d).speed (get_or terms i d).rate) [
-          | full past f ↦ ap (λ n. Err (carrying n (speed_argument i))) (ap refusal_number (e ∙ f)) ∙ reading_full past
-          | outside room bad f ↦ ap (λ n. Err (carrying n (speed_argument i))) (ap refusal_number (e ∙ f)) ∙ reading_outside room bad
+          | full past f ↦ reading_full past
+          | outside room bad f ↦ let z : ◌≡◌ {A = ℕ} 4 5 = ap refusal_number (e ∙ f) in absurd (omega arith)
+          | obeyed room fine f ↦ let z : ◌≡◌ {A = ℕ} 0 1 = cc (e ∙ f) in absurd (omega arith)
+        ]
+    reading_refused OutOfRange e =
+        elim (added lines (get_or terms i d).speed (get_or terms i d).rate) [
+          | full past f ↦ let z : ◌≡◌ {A = ℕ} 5 4 = ap refusal_number (e ∙ f) in absurd (omega arith)
+          | outside room bad f ↦ reading_outside room bad
           | obeyed room fine f ↦ let z : ◌≡◌ {A = ℕ} 0 1 = cc (e ∙ f) in absurd (omega arith)
         ]
 
-    pub reading_told : (added : Result ℕ CardRefusal) (told : HireRefusal) → answer_of card_told added ≡ add_answer lines (get_or terms i d).speed (get_or terms i d).rate → MatchResult added (λ machine. ⊥) (λ refusal. hire_told told ≡ carrying (card_told refusal).number (speed_argument i)) → Err (hire_told told) ≡ card_answer terms
+    pub reading_told : (added : Result ℕ CardRefusal) (told : HireRefusal) → answer_of card_told added ≡ add_answer lines (get_or terms i d).speed (get_or terms i d).rate → MatchResult added (λ machine. ⊥) (λ refusal. hire_told told ≡ told_at refusal i (get_or terms i d)) → Err (hire_told told) ≡ card_answer terms
     reading_told (Ok machine) told e h = absurd h
-    reading_told (Err refusal) told e h = ap (λ (r : Refused). Err r) h ∙ reading_refused (card_told refusal) e
+    reading_told (Err refusal) told e h = ap (λ (r : Refused). Err r) h ∙ reading_refused refusal e
 
     pub reading_more : length lines < 32 → line_in_range (get_or terms i d).speed (get_or terms i d).rate ≡ true → Reading terms (lines ++ (terms_line (get_or terms i d) ∷ [])) (i + 1)
     reading_more room good =

@@ -1,3 +1,4 @@
 pub mod Refusal
 pub mod Hire
 pub mod QuoteLine
+pub mod Answer

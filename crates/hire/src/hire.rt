@@ -1,12 +1,10 @@
 // A hire: a work, and the card of the machines that are offered for it.
-ghost use Rattle.std.specs.Prelude.{◌≡◌};
-ghost use Rattle.refusals.specs.Answer.{carrying};
-ghost use Rattle.tariffs.specs.Refusal.{card_told};
+ghost use Rattle.std.specs.Prelude.{◌≡◌, ◌^◌, ◌<◌};
 ghost use Rattle.hire.specs.Refusal.{hire_told};
-ghost use Rattle.hire.specs.Hire.{card_answer, card_heard, hire_answer, hire_heard};
+ghost use Rattle.hire.specs.Hire.{bad_argument, told_at, card_answer, card_heard, hire_answer, hire_heard};
 
 use crate::{HireRefusal, Terms};
-use tariffs::{CardRefusal, RateCard};
+use tariffs::{CardRefusal, Line, RateCard};
 use work::work_in_range;
 
 #[derive(Clone, Copy, PartialEq, Eq, Debug)]
@@ -15,13 +13,28 @@ pub struct Hire {
     pub card: RateCard,
 }
 
-// The card's refusal of a line whose speed is this argument.
-fn at_argument(refusal: CardRefusal, argument: usize) -> HireRefusal
-    ensures { hire_told result ≡ carrying (card_told refusal).number argument }
+// Of the terms of a machine that are out of range, the argument that is: the speed, else the rate. At the rate 0, which
+// is in range, the speed alone decides.
+fn bad_argument(machine: usize, offer: &Terms) -> usize
+    requires { machine < 2 ^ 60 }
+    ensures { result ≡ bad_argument machine offer.now }
+{
+    let speed = 2 + 2 * machine;
+    if Line::new(offer.speed, 0).is_some() {
+        speed + 1
+    } else {
+        speed
+    }
+}
+
+// The card's refusal of the line of these terms.
+fn at_argument(refusal: CardRefusal, machine: usize, offer: &Terms) -> HireRefusal
+    requires { machine < 2 ^ 60 }
+    ensures { hire_told result ≡ told_at refusal machine offer.now }
 {
     match refusal {
-        CardRefusal::Full => HireRefusal::FullCard(argument),
-        CardRefusal::OutOfRange => HireRefusal::OutOfRange(argument),
+        CardRefusal::Full => HireRefusal::FullCard(2 + 2 * machine),
+        CardRefusal::OutOfRange => HireRefusal::OutOfRange(bad_argument(machine, offer)),
     }
 }
 
@@ -32,7 +45,7 @@ fn read_card(terms: &[Terms]) -> Result<RateCard, HireRefusal>
     let mut card = RateCard::new();
     for (machine, offer) in terms.iter().enumerate() {
         card.add(offer.speed, offer.rate)
-            .map_err(|refusal| at_argument(refusal, 2 + 2 * machine))?;
+            .map_err(|refusal| at_argument(refusal, machine, offer))?;
     }
     Ok(card)
 }

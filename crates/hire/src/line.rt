@@ -1,6 +1,6 @@
 // The line that tells of a quote.
 ghost use Rattle.texts.specs.Line.{line};
-ghost use Rattle.texts.specs.Write.{Writes};
+ghost use Rattle.texts.specs.Write.{Writes, FitsIn};
 ghost use Rattle.hire.specs.QuoteLine.{quote_words};
 
 use costs::Cents;
@@ -15,7 +15,10 @@ pub fn write_quote<T: Tariff<Cost = Cents>>(
     work: u32,
     memory: &mut [u8],
 ) -> Result<usize, TooShort>
-    ensures { Writes (line (quote_words machine ((T.Tariff.meaning tariff.now).quote machine work))) memory.old memory.new result }
+    ensures text { let meaning = T.Tariff.meaning tariff.now in
+        let words = quote_words machine (meaning.quote machine work) in
+        Writes (line words) memory.old memory.new result }
+    ensures fits { FitsIn 63 memory.old result }
 {
     let number = Word::Number(machine as u64);
     match tariff.quote(machine, work) {

@@ -10,7 +10,7 @@ pub enum HireRefusal {
     Work,
     // There are more machines than a card has lines; the speed of the first too many is this argument.
     FullCard(usize),
-    // A speed or its rate is out of range; the speed is this argument.
+    // A speed or a rate is out of range: this argument.
     OutOfRange(usize),
 }
 

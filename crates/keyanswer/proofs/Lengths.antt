@@ -37,7 +37,7 @@ use Rattle.keylines.specs.Plan.{assigned_from, assigned_tasks, result_text}
 use Rattle.keylines.specs.Point.{point_line}
 use Rattle.keyinput.specs.declared.question.Question.{Question}
 use Rattle.keyinput.specs.declared.question.Question.TheVariants.{Front, Budget, Deadline}
-use Rattle.keyanswer.specs.Answer.{key_cells, key_points, text_of, limit_lines, answer_lines}
+use Rattle.keyanswer.specs.Answer.{key_cells, key_points, text_bytes, text_of, limit_lines, answer_lines}
 use Rattle.keyanswer.proofs.Texts.{few_tasks}
 
 -- lines that have at most so many bytes each
@@ -106,7 +106,7 @@ module _ (T : Meaning Cents) where
         omega arith
 
     front_length : (few short : Bool) → ltb key_cells (cells_needed T b) ≡ few → ltb key_points (length (front cents_kind T b)) ≡ short
-        → length (text_of (refused_if few 7 (refused_if short 8 (Ok (flat_map (point_line cents_text) (front cents_kind T b)))))) ≤ 98304
+        → length (text_of (refused_if few 7 (refused_if short 8 (Ok (flat_map (point_line cents_text) (front cents_kind T b)))))) ≤ text_bytes
     front_length true short f s = omega (arith, bare_length 7 (omega arith))
     front_length false true f s = omega (arith, bare_length 8 (omega arith))
     front_length false false f s =
@@ -114,7 +114,7 @@ module _ (T : Meaning Cents) where
         let lines = flat_length (point_line cents_text) 22 (front cents_kind T b) (λ p i. point_length p (short_pair f p (of_pairs cents_kind T (standing b) p (of_front cents_laws (pairs cents_kind T (standing b)) p i).0))) in
         omega arith
 
-    result_length : (p : Point Cents) → p.length < 10000 → length (result_text cents_text p (assigned_tasks b (plan cents_kind T b p))) ≤ 98304
+    result_length : (p : Point Cents) → p.length < 10000 → length (result_text cents_text p (assigned_tasks b (plan cents_kind T b p))) ≤ text_bytes
     result_length p short =
         let first = point_length p short in
         let tasks = few_tasks sheet in
@@ -130,14 +130,14 @@ module _ (T : Meaning Cents) where
         omega arith
 
     limit_length : (few : Bool) → ltb key_cells (cells_needed T b) ≡ few → (lowest : Option ℕ) (found : Option (Point Cents)) → ((task : ℕ) → lowest ≡ Some task → task < 2 ^ 64) → ((p : Point Cents) → found ≡ Some p → lowest ≡ None → HasPair cents_kind T (standing b) p)
-        → length (text_of (refused_if few 7 (limit_lines T b (unless_unquoted lowest (or_none_within found))))) ≤ 98304
+        → length (text_of (refused_if few 7 (limit_lines T b (unless_unquoted lowest (or_none_within found))))) ≤ text_bytes
     limit_length true f lowest found known has = omega (arith, bare_length 7 (omega arith))
     limit_length false f (Some task) found known has = omega (arith, carrying_length 9 task (omega arith) (known task refl))
     limit_length false f None None known has = omega (arith, bare_length 10 (omega arith))
     limit_length false f None (Some p) known has = result_length p (short_pair f p (has p refl refl))
 
--- a text fits in 98,304 bytes
-pub answer_length : (card : RateCard) (sheet : Sheet) (question : Question) → length (text_of (answer_lines (lines_meaning (lines_of card)) (book sheet) question)) ≤ 98304
+-- every text fits in the bytes of a key
+pub answer_length : (card : RateCard) (sheet : Sheet) (question : Question) → length (text_of (answer_lines (lines_meaning (lines_of card)) (book sheet) question)) ≤ text_bytes
 answer_length card sheet Front =
     let T = lines_meaning (lines_of card) in
     front_length T (card_ranged card) sheet _ _ refl refl

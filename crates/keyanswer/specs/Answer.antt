@@ -1,5 +1,5 @@
 -- The text that answers the input of a key
-use Rattle.std.specs.Prelude.{ℕ, List, length, take, Ok, Err, nat_lt}
+use Rattle.std.specs.Prelude.{ℕ, List, length, Ok, Err, nat_lt}
 use Rattle.std.specs.List.{flat_map}
 use Rattle.refusals.specs.Answer.{Answer, refused_if}
 use Rattle.costs.specs.Cents.{cents, cents_kind, cents_text}
@@ -20,16 +20,17 @@ use Rattle.keylines.specs.Point.{point_line}
 use Rattle.keyinput.specs.declared.question.Question.{Question}
 use Rattle.keyinput.specs.declared.question.Question.TheVariants.{Front, Budget, Deadline}
 use Rattle.keyinput.specs.Input.{Asked, key_in}
+pub use Rattle.keyinput.specs.Deciding.{deciding_bytes}
 
--- the cells and points of a key, and the bytes of an input that decide
+-- the cells and points of a key, and the bytes in which every text of an answer fits
 abbrev pub key_cells : ℕ
 key_cells = 4096
 
 abbrev pub key_points : ℕ
 key_points = 4096
 
-abbrev pub deciding_bytes : ℕ
-deciding_bytes = 1024
+abbrev pub text_bytes : ℕ
+text_bytes = 98304
 
 -- the lines of an answer, or the line of its refusal
 abbrev pub text_of : Answer (List ℕ) → List ℕ
@@ -78,4 +79,4 @@ answered (Ok key) = asked_lines key
 answered (Err refused) = Err refused
 
 abbrev pub key_text : List ℕ → List ℕ
-key_text bytes = text_of (answered (value_of (key_in (take deciding_bytes bytes))))
+key_text bytes = text_of (answered (value_of (key_in bytes)))

@@ -9,7 +9,8 @@ use Rattle.numbers.specs.Input.{value_of}
 use Rattle.model.specs.declared.point.Point.{Point}
 use Rattle.model.specs.Cell.{cells_needed}
 use Rattle.model.specs.Front.{front}
-use Rattle.planner.specs.Bargain.{same_points, Verdict}
+use Rattle.model.specs.Bargain.{Verdict}
+use Rattle.planner.specs.Bargain.{same_points}
 use Rattle.keyinput.specs.Batch.{Offer, batch_in}
 use Rattle.keyanswer.specs.declared.refusal.CompareRefusal.{CompareRefusal}
 use Rattle.keyanswer.specs.Answer.{key_cells, key_points}
@@ -29,10 +30,10 @@ few_points_for o = nat_lt key_points (length (front_of o))
 
 -- whether the fronts are equal, or refusal 7 or 8
 abbrev pub offers_answer : Offer → Offer → Answer Bool
-offers_answer mine yours =
-    refused_if (few_cells_for mine || few_cells_for yours) 7
-    (refused_if (few_points_for mine || few_points_for yours) 8
-    (Ok (same_points cents_kind (front_of mine) (front_of yours))))
+offers_answer first second =
+    refused_if (few_cells_for first || few_cells_for second) 7
+    (refused_if (few_points_for first || few_points_for second) 8
+    (Ok (same_points cents_kind (front_of first) (front_of second))))
 
 -- a refusal with the input that it is about: 1, 2, or 0 for both
 pub record RefusedAt : Type 0 where
@@ -48,25 +49,24 @@ about_input n (Err refused) = Err (refused_at n refused)
 
 -- the first input is read, then the second, then both are compared
 abbrev pub second_read : Offer → Answer Offer → Result Bool RefusedAt
-second_read mine (Ok yours) = about_input 0 (offers_answer mine yours)
-second_read mine (Err refused) = Err (refused_at 2 refused)
+second_read first (Ok second) = about_input 0 (offers_answer first second)
+second_read first (Err refused) = Err (refused_at 2 refused)
 
 abbrev pub first_read : Answer Offer → Answer Offer → Result Bool RefusedAt
-first_read (Ok mine) second = second_read mine second
+first_read (Ok first) second = second_read first second
 first_read (Err refused) second = Err (refused_at 1 refused)
 
 abbrev pub compare_answer : List ℕ → List ℕ → Result Bool RefusedAt
-compare_answer first second = first_read (value_of (batch_in first)) (value_of (batch_in second))
+compare_answer first_input second_input = first_read (value_of (batch_in first_input)) (value_of (batch_in second_input))
 
 -- what the call returned, in that form
 abbrev pub heard : Result Bool CompareRefusal → Result Bool RefusedAt
 heard (Ok equal) = Ok equal
 heard (Err refusal) = Err (refused_at (which_input refusal) (compare_told refusal))
 
--- the verdict is right: equal exactly when each assignment of either has one of the other that is no longer and no
--- dearer, and exactly when every budget and every deadline is answered alike
+-- the verdict is right: the whole statement holds of it, for the cards and sheets that the inputs spell
 abbrev pub Judged : List ℕ → List ℕ → Result Bool CompareRefusal → Type 0
-Judged first second (Ok equal) =
-    (mine yours : Offer) → value_of (batch_in first) ≡ Ok mine → value_of (batch_in second) ≡ Ok yours
-    → Verdict cents_kind (offered mine) mine.book (offered yours) yours.book equal
-Judged first second (Err refusal) = Unit {0}
+Judged first_input second_input (Ok equal) =
+    (first second : Offer) → value_of (batch_in first_input) ≡ Ok first → value_of (batch_in second_input) ≡ Ok second
+    → Verdict cents_kind (offered first) first.book (offered second) second.book equal
+Judged first_input second_input (Err refusal) = Unit {0}

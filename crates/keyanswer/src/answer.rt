@@ -1,12 +1,15 @@
 // The answer to the input of a key.
+ghost use Rattle.std.specs.Prelude.{◌≡◌, take, IfOk};
 ghost use Rattle.refusals.specs.Answer.{answer_of};
 ghost use Rattle.sheets.specs.Book.{book};
 ghost use Rattle.tariffs.specs.Card.{lines_of, lines_meaning};
 ghost use Rattle.texts.specs.Write.{Writes, FitsIn};
 ghost use Rattle.planner.specs.Refusal.{question_told};
-ghost use Rattle.keyanswer.specs.Answer.{front_lines, answer_lines, limit_text, text_of, key_text};
-ghost use Rattle.keyanswer.specs.Words.{AnswersTell};
-ghost use Rattle.keyanswer.specs.declared.answer.TheConstants.{TEXT_BYTES};
+ghost use Rattle.keyinput.specs.Deciding.{deciding_bytes, FirstBytesDecide};
+ghost use Rattle.keyinput.specs.Input.{key_in};
+ghost use Rattle.keyanswer.specs.Answer.{text_bytes, front_lines, answer_lines, limit_text, text_of, key_text};
+ghost use Rattle.keyanswer.specs.Words.{TextTells};
+ghost use Rattle.keyanswer.specs.declared.answer.TheConstants.{INPUT_BYTES, TEXT_BYTES};
 
 use crate::memory::{CELLS, POINTS, unwritten};
 use crate::priced::priced;
@@ -19,10 +22,10 @@ use sheets::{MAX_TASKS, Sheet};
 use tariffs::RateCard;
 use texts::{TooShort, write_refusal};
 
-// No longer input is accepted, so that these bytes decide.
+/// The bytes of an input that decide: what stands behind them changes no answer, no refusal and no place.
 pub const INPUT_BYTES: usize = 1_024;
 
-// No text of an answer is longer.
+/// No text of an answer has more bytes.
 pub const TEXT_BYTES: usize = 98_304;
 
 fn answer_front(
@@ -30,7 +33,8 @@ fn answer_front(
     cells: &mut [Cell<Cents>; CELLS],
     text: &mut [u8],
 ) -> Result<usize, TooShort>
-    ensures { Writes (text_of (front_lines (lines_meaning (lines_of priced.now.tariff.now)) (book priced.now.sheet.now))) text.old text.new result }
+    ensures { let T = lines_meaning (lines_of priced.now.tariff.now) in
+        Writes (text_of (front_lines T (book priced.now.sheet.now))) text.old text.new result }
 {
     let mut points = [unwritten(); POINTS];
     match front(priced, cells, &mut points) {
@@ -46,7 +50,8 @@ fn write_limit(
     plan: &[u8],
     text: &mut [u8],
 ) -> Result<usize, TooShort>
-    ensures { Writes (limit_text (book sheet.now) (answer_of question_told answered) plan.now) text.old text.new result }
+    ensures { let written = limit_text (book sheet.now) (answer_of question_told answered) plan.now in
+        Writes written text.old text.new result }
 {
     match answered {
         Ok(point) => write_result(&point, sheet, plan, text),
@@ -59,8 +64,9 @@ fn answer_question(
     question: Question,
     text: &mut [u8],
 ) -> Result<usize, TooShort>
-    ensures text { Writes (text_of (answer_lines (lines_meaning (lines_of priced.now.tariff.now)) (book priced.now.sheet.now) question)) text.old text.new result }
-    ensures fits { FitsIn TEXT_BYTES text.old result }
+    ensures text { let T = lines_meaning (lines_of priced.now.tariff.now) in
+        Writes (text_of (answer_lines T (book priced.now.sheet.now) question)) text.old text.new result }
+    ensures fits { FitsIn text_bytes text.old result }
 {
     let mut cells = [Cell::of(None); CELLS];
     let mut plan = [0; MAX_TASKS];
@@ -74,13 +80,16 @@ fn answer_question(
     write_limit(answered, priced.sheet, &plan, text)
 }
 
-// Writes the text of the answer to an input, and returns how many bytes that took: a line for each point of the front, or
-// the line of the pair and one for each standing task, or the line of a refusal.
-#[tactic(auto, using(crate::proofs::Words::answers_tell))]
+/// Writes the text of the answer to an input at the start of the memory, and returns how many bytes that took: a line for
+/// each point of the front, or the line of the pair and one for each standing task, or the line of a refusal, also where the
+/// input is not read (docs/RULES.md, "The input of a key"). Refused only where the memory, of fewer than `TEXT_BYTES`
+/// bytes, is too short for the text; then nothing is altered. Of a longer input than `INPUT_BYTES` no more is looked at.
 pub fn answer_key(input: &[u8], text: &mut [u8]) -> Result<usize, TooShort>
     ensures text { Writes (key_text input.now) text.old text.new result }
-    ensures fits { FitsIn TEXT_BYTES text.old result }
-    ensures words { AnswersTell }
+    ensures fits { FitsIn text_bytes text.old result }
+    ensures words { IfOk result (λ count. TextTells input.now (take count text.new)) }
+    ensures decided { FirstBytesDecide key_in }
+    ensures sizes { (INPUT_BYTES ≡ deciding_bytes) × (TEXT_BYTES ≡ text_bytes) }
 {
     let deciding = input.len().min(INPUT_BYTES);
     match read_input(&input[..deciding]) {

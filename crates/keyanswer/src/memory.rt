@@ -14,3 +14,9 @@ pub(crate) fn unwritten() -> Point<Cents> {
         cost: Cents::new(0),
     }
 }
+
+/// No sheet needs more cells: 17 rows, each of a cell for every number of minutes up to 16 days.
+pub const MOST_CELLS: usize = 391_697;
+
+/// No front has more points: one for every number of minutes up to 16 days.
+pub const MOST_POINTS: usize = 23_041;

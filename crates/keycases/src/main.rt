@@ -1,10 +1,8 @@
 // Prints the answers to the inputs in `data`, each behind its name.
 #![tactic(auto)]
 
-use anyhow::anyhow;
-use keyanswer::{TEXT_BYTES, answer_key};
+use keystreams::write_answer;
 use std::fs;
-use std::io::Write;
 
 const NAMES: [&str; 24] = [
     "budget",
@@ -34,11 +32,8 @@ const NAMES: [&str; 24] = [
 ];
 
 fn print_answer(rt: &HostRuntime, name: &str) -> anyhow::Result<()> {
-    let input = fs::read(rt, name)?;
-    let mut text = [0u8; TEXT_BYTES];
     println!(rt; "{name}:")?;
-    let len = answer_key(&input, &mut text).map_err(|_| anyhow!("the text is too long"))?;
-    rt.stdout().write_all(&text[..len])?;
+    write_answer(rt.alloc(), fs::open(rt, name)?, &mut rt.stdout())?;
     Ok(())
 }
 

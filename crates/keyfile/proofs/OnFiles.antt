@@ -39,19 +39,20 @@ pub same : {A : Type 0} (a b : A) → ◌≡◌ {A = Answer A} (Ok a) (Ok b) →
 same a b e = cc
 
 -- a call that was accepted between readings
-record Obeyed (book : Book) (call : Call) (left : Input) (found : Book × Input) : Type 0 where
-  made : found.0 ≡ obeyed book call
-  rest : found.1 ≡ left
-  stepped : found.0 ≡ step book call
+pub record Obeyed (book : Book) (call : Call) (left : Input) (found : Book × Input) : Type 0 where
+  pub checks : accepted ≡ checked book call
+  pub made : found.0 ≡ obeyed book call
+  pub rest : found.1 ≡ left
+  pub stepped : found.0 ≡ step book call
 
-was_obeyed : (book : Book) (call : Call) (place : ℕ) (left : Input) (found : Book × Input) → called (answer book call) (step book call) place left ≡ Ok found → Obeyed book call left found
+pub was_obeyed : (book : Book) (call : Call) (place : ℕ) (left : Input) (found : Book × Input) → called (answer book call) (step book call) place left ≡ Ok found → Obeyed book call left found
 was_obeyed book call place left found = by (checked book call) refl
   where
     by : (outcome : Answer (Unit {0})) → outcome ≡ checked book call → called (elim outcome as (λ _. Answer (Option ℕ)) [ Ok _ ↦ Ok (number book call) | Err refused ↦ Err refused ]) (elim outcome as (λ _. Book) [ Ok _ ↦ obeyed book call | Err refused ↦ book ]) place left ≡ Ok found → Obeyed book call left found
     by (Ok _) e h =
         let p = same _ _ h in
         let m : found.0 ≡ obeyed book call = ap (λ q. q.0) (sym p) in
-        record { made = m; rest = ap (λ q. q.1) (sym p); stepped = m ∙ sym (step_accepted book call e) }
+        record { checks = e; made = m; rest = ap (λ q. q.1) (sym p); stepped = m ∙ sym (step_accepted book call e) }
     by (Err refused) e h = cc
 
 pub string_behind : (bytes others : List ℕ) → ByteString (bytes ++ others) → ByteString others

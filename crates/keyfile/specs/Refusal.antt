@@ -1,4 +1,5 @@
 -- The refusals of a file by number and place, and the layers that they come from
+use Rattle.std.specs.Prelude.{ℕ, ◌≤◌}
 use Rattle.refusals.specs.Answer.{Refused, carrying}
 use Rattle.numbers.specs.Refusal.{number_told}
 use Rattle.sheets.specs.Refusals.{sheet_told}
@@ -21,3 +22,10 @@ layer_of (Card refusal place) = layer.Card
 layer_of (Sheet refusal place) = layer.Sheet
 layer_of (Extra place) = layer.File
 layer_of (Question place) = layer.File
+
+-- the numbers of a layer's refusals: 1 to 3 of the sheet, 4 and 5 of the card, 11 and 12 of numbers, 13 and 14 of the file
+abbrev pub IsNumberOf : Layer → ℕ → Type 0
+IsNumberOf layer.Sheet number = (1 ≤ number) × (number ≤ 3)
+IsNumberOf layer.Card number = (4 ≤ number) × (number ≤ 5)
+IsNumberOf layer.Number number = (11 ≤ number) × (number ≤ 12)
+IsNumberOf layer.File number = (13 ≤ number) × (number ≤ 14)

@@ -3,6 +3,7 @@
 
 mod card;
 mod end;
+mod plain;
 mod refusal;
 mod sheet;
 mod writing;

@@ -1,7 +1,7 @@
 // Why a file is not read.
 ghost use Rattle.std.specs.Prelude.{◌≡◌};
 ghost use Rattle.keyfile.specs.declared.refusal.FileRefusal.TheVariants.{Number};
-ghost use Rattle.keyfile.specs.Refusal.{file_told, layer_of};
+ghost use Rattle.keyfile.specs.Refusal.{file_told, layer_of, IsNumberOf};
 
 use numbers::NumberRefusal;
 use refusals::Refusal;
@@ -39,8 +39,11 @@ impl From<NumberRefusal> for FileRefusal {
 }
 
 impl FileRefusal {
+    /// The layer that refused. Its number tells it too: refusals 1 to 3 are a sheet's, 4 and 5 a card's, 11 and 12 those of
+    /// numbers, 13 and 14 the file's (docs/RULES.md, "Refusals").
     pub fn layer(&self) -> Layer
-        ensures { result ≡ layer_of self.now }
+        ensures layer { result ≡ layer_of self.now }
+        ensures by_number { IsNumberOf result (file_told self.now).number }
     {
         match self {
             FileRefusal::Number(_) => Layer::Number,

@@ -1,8 +1,8 @@
 -- Cards that were read, with the bytes that spell them
-use Rattle.std.proofs.Common.{◌≡◌, ℕ, zero, suc, Bool, true, false, cond, not, leb, List, [], ◌∷◌, ◌++◌, length, is_ok, Ok, sym, refl, ap, ◌∙◌, subst, append_assoc, arith}
+use Rattle.std.proofs.Common.{◌≡◌, ℕ, zero, suc, ◌<◌, Bool, true, false, cond, not, leb, List, [], ◌∷◌, ◌++◌, length, is_ok, Ok, sym, refl, ap, ◌∙◌, subst, append_assoc, arith}
 use Rattle.std.specs.List.{flat_map}
 use Rattle.std.proofs.lemmas.List.{append-nil}
-use Rattle.std.proofs.lemmas.Bool.{leb-true, and_parts}
+use Rattle.std.proofs.lemmas.Bool.{leb-true, leb-false, and_parts}
 use Rattle.refusals.specs.Answer.{Answer, refused_if}
 use Rattle.numbers.specs.Input.{Input, then}
 use Rattle.numbers.specs.Number.{spelled, number_in}
@@ -17,21 +17,22 @@ use Rattle.keyfile.proofs.OnFiles.{through, same, behind_spelled}
 use Rattle.keyinput.specs.Spelled.{spelled_line, spelled_card}
 
 -- a line that was added between readings
-record Added (lines : List Line) (speed rate : ℕ) (left : Input) (found : List Line × Input) : Type 0 where
-  made : found.0 ≡ lines ++ (line speed rate ∷ [])
-  rest : found.1 ≡ left
-  in_range : line_in_range speed rate ≡ true
+pub record Added (lines : List Line) (speed rate : ℕ) (left : Input) (found : List Line × Input) : Type 0 where
+  pub room : length lines < 32
+  pub made : found.0 ≡ lines ++ (line speed rate ∷ [])
+  pub rest : found.1 ≡ left
+  pub in_range : line_in_range speed rate ≡ true
 
-was_added : (lines : List Line) (speed rate place : ℕ) (left : Input) (found : List Line × Input) → called (add_answer lines speed rate) (lines_after lines speed rate) place left ≡ Ok found → Added lines speed rate left found
-was_added lines speed rate place left found = by (leb 32 (length lines)) (line_in_range speed rate) refl
+pub was_added : (lines : List Line) (speed rate place : ℕ) (left : Input) (found : List Line × Input) → called (add_answer lines speed rate) (lines_after lines speed rate) place left ≡ Ok found → Added lines speed rate left found
+was_added lines speed rate place left found = by (leb 32 (length lines)) (line_in_range speed rate) refl refl
   where
     told : Bool → Bool → Answer ℕ
     told full good = refused_if full 4 (refused_if (not good) 5 (Ok (length lines)))
 
-    by : (full good : Bool) → line_in_range speed rate ≡ good → called (told full good) (cond (is_ok (told full good)) (lines ++ (line speed rate ∷ [])) lines) place left ≡ Ok found → Added lines speed rate left found
-    by true good r e = cc
-    by false false r e = cc
-    by false true r e = let p = same _ _ e in record { made = ap (λ q. q.0) (sym p); rest = ap (λ q. q.1) (sym p); in_range = r }
+    by : (full good : Bool) → leb 32 (length lines) ≡ full → line_in_range speed rate ≡ good → called (told full good) (cond (is_ok (told full good)) (lines ++ (line speed rate ∷ [])) lines) place left ≡ Ok found → Added lines speed rate left found
+    by true good f r e = cc
+    by false false f r e = cc
+    by false true f r e = let p = same _ _ e in record { room = leb-false 32 (length lines) f; made = ap (λ q. q.0) (sym p); rest = ap (λ q. q.1) (sym p); in_range = r }
 
 -- a line in range keeps its numbers
 line_spelled : (speed rate : ℕ) → line_in_range speed rate ≡ true → spelled_line (line speed rate) ≡ spelled speed ++ spelled rate

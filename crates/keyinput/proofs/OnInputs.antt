@@ -15,9 +15,9 @@ use Rattle.keyfile.proofs.OnFiles.{through, same, string_behind, behind_spelled,
 use Rattle.keyinput.specs.declared.question.Question.{Question}
 use Rattle.keyinput.specs.declared.question.Question.TheVariants.{Front, Budget, Deadline}
 use Rattle.keyinput.specs.Question.{limit_in, question_in}
-use Rattle.keyinput.specs.Batch.{Offer, offer, offer_in}
+use Rattle.keyinput.specs.Batch.{Offer, offer, offer_in, batch_in}
 use Rattle.keyinput.specs.Input.{Asked, asked, key_in}
-use Rattle.keyinput.specs.Spelled.{spelled_card, spelled_question, spelled_input}
+use Rattle.keyinput.specs.Spelled.{spelled_card, spelled_question, spelled_batch, spelled_input}
 use Rattle.keyinput.proofs.OnCards.{card_read}
 
 limit_read : (ask : ℕ → Question) (before : Input) (question : Question) (left : Input) → ByteString before.bytes → limit_in ask before ≡ Ok (question, left) → (limit : ℕ) × (question ≡ ask limit) × (before.bytes ≡ spelled limit ++ left.bytes)
@@ -53,10 +53,7 @@ question_read before question left strung e =
     by n behind false false true z f s strung' start h = limited 2 Deadline behind (λ _. refl) strung' (start 2 (eqb-true n 2 s)) h
     by n behind false false false z f s strung' start h = cc
 
-abbrev spelled_offer : Offer → List ℕ
-spelled_offer offer = spelled_card offer.lines ++ spelled_sheet (works_by_stage offer.book)
-
-offer_read : (before : Input) (read : Offer) (left : Input) → ByteString before.bytes → offer_in before ≡ Ok (read, left) → before.bytes ≡ spelled_offer read ++ left.bytes
+offer_read : (before : Input) (read : Offer) (left : Input) → ByteString before.bytes → offer_in before ≡ Ok (read, left) → before.bytes ≡ spelled_batch read ++ left.bytes
 offer_read before read left strung e =
     let P : List ℕ → Type 0 = ByteString in
     let card = through (card_in before) (λ lines behind. then (sheet_in behind) (λ book left. Ok (offer lines book, left))) (read, left) e in
@@ -67,7 +64,21 @@ offer_read before read left strung e =
     card_bytes
     ∙ ap (λ l. spelled_card card.value ++ l) sheet_bytes
     ∙ sym (append_assoc (spelled_card card.value) (spelled_sheet (works_by_stage sheet.value)) sheet.behind.bytes)
-    ∙ ap (λ (q : Offer × Input). spelled_offer q.0 ++ q.1.bytes) (same _ _ sheet.further)
+    ∙ ap (λ (q : Offer × Input). spelled_batch q.0 ++ q.1.bytes) (same _ _ sheet.further)
+
+-- what an accepted card with a sheet was, in bytes
+pub accepted_batch_is_spelled : (bytes : List ℕ) (read : Offer) → ByteString bytes → Ok read ≡ value_of (batch_in bytes) → bytes ≡ spelled_batch read
+accepted_batch_is_spelled bytes read strung = by (batch_in bytes) refl
+  where
+    by : (reading : Reading Offer) → batch_in bytes ≡ reading → Ok read ≡ value_of reading → bytes ≡ spelled_batch read
+    by (Err refused) r e = cc
+    by (Ok found) r e =
+        let batch = through (offer_in (input 0 bytes)) ended found r in
+        let end = ended_all batch.value batch.behind found batch.further in
+        offer_read (input 0 bytes) batch.value batch.behind strung batch.read
+        ∙ ap (λ l. spelled_batch batch.value ++ l) end.1
+        ∙ append-nil (spelled_batch batch.value)
+        ∙ ap spelled_batch (end.0 ∙ sym (same _ _ e))
 
 -- what an accepted input was, in bytes
 pub accepted_is_spelled : (bytes : List ℕ) (key : Asked) → ByteString bytes → Ok key ≡ value_of (key_in bytes) → bytes ≡ spelled_input key
@@ -81,9 +92,9 @@ accepted_is_spelled bytes key strung = by (key_in bytes) refl
         let question = through (question_in batch.behind) (λ question. ended (asked batch.value.lines batch.value.book question)) found batch.further in
         let end = ended_all (asked batch.value.lines batch.value.book question.value) question.behind found question.further in
         let batch_bytes = offer_read (input 0 bytes) batch.value batch.behind strung batch.read in
-        let strung_question : ByteString batch.behind.bytes = string_behind (spelled_offer batch.value) batch.behind.bytes (subst P batch_bytes strung) in
+        let strung_question : ByteString batch.behind.bytes = string_behind (spelled_batch batch.value) batch.behind.bytes (subst P batch_bytes strung) in
         let question_bytes = question_read batch.behind question.value question.behind strung_question question.read in
         batch_bytes
-        ∙ ap (λ l. spelled_offer batch.value ++ l) (question_bytes ∙ ap (λ l. spelled_question question.value ++ l) end.1 ∙ append-nil (spelled_question question.value))
+        ∙ ap (λ l. spelled_batch batch.value ++ l) (question_bytes ∙ ap (λ l. spelled_question question.value ++ l) end.1 ∙ append-nil (spelled_question question.value))
         ∙ append_assoc (spelled_card batch.value.lines) (spelled_sheet (works_by_stage batch.value.book)) (spelled_question question.value)
         ∙ ap spelled_input (end.0 ∙ sym (same _ _ e))

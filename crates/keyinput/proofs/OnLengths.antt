@@ -14,11 +14,13 @@ use Rattle.sheets.proofs.Histories.{sheet_sound}
 use Rattle.keyfile.specs.Works.{stage_works, works_by_stage, spelled_stage, spelled_sheet}
 use Rattle.keyfile.proofs.OnNumbers.{one_byte, two_bytes, three_bytes, five_bytes}
 use Rattle.keyfile.proofs.Grouping.{total, counted, InRange, works_in_range}
+use Rattle.keyinput.specs.declared.batch.Batch.{Batch}
 use Rattle.keyinput.specs.declared.input.KeyInput.{KeyInput}
 use Rattle.keyinput.specs.declared.question.Question.{Question}
 use Rattle.keyinput.specs.declared.question.Question.TheVariants.{Front, Budget, Deadline}
+use Rattle.keyinput.specs.Batch.{batch_of}
 use Rattle.keyinput.specs.Input.{asked_by}
-use Rattle.keyinput.specs.Spelled.{spelled_line, spelled_card, spelled_question, spelled_input, longest_input}
+use Rattle.keyinput.specs.Spelled.{spelled_line, spelled_card, spelled_question, spelled_batch, spelled_input, longest_batch, longest_input}
 
 -- a task count takes a second byte only from 128 on
 count_bytes : (n : ℕ) → n ≤ 256 → 128 * length (spelled n) ≤ 128 + n
@@ -74,6 +76,13 @@ card_bytes card =
     let first = one_byte (length (lines_of card)) (omega arith) in
     let rest = lines_bytes (lines_of card) in
     let l = length-append (spelled (length (lines_of card))) (flat_map spelled_line (lines_of card)) in
+    omega arith
+
+pub batch_bytes : (batch : Batch) → length (spelled_batch (batch_of batch)) ≤ longest_batch
+batch_bytes batch =
+    let card = card_bytes batch.card in
+    let sheet = sheet_bytes batch.sheet in
+    let l = length-append (spelled_card (lines_of batch.card)) (spelled_sheet (works_by_stage (book batch.sheet))) in
     omega arith
 
 question_bytes : (question : Question) → length (spelled_question question) ≤ 6

@@ -1,4 +1,4 @@
--- Bytes that spell a card, a sheet and a question are read as these
+-- Bytes that spell a card and a sheet, alone or with a question, are read as these
 use Rattle.std.proofs.Common.{◌≡◌, ℕ, ◌+◌, ◌^◌, ◌<◌, ◌≤◌, Bool, true, false, cond, not, eqb, List, [], ◌∷◌, ◌++◌, length, is_ok, Ok, Err, sym, ap, ◌∙◌, append_assoc, add-zero, arith, length-append}
 use Rattle.std.specs.List.{flat_map}
 use Rattle.std.proofs.lemmas.List.{append-nil}
@@ -10,7 +10,7 @@ use Rattle.tariffs.specs.declared.line.Line.{Line}
 use Rattle.tariffs.specs.Card.{lines_of, add_answer, lines_after}
 use Rattle.tariffs.specs.Line.{line, line_in_range}
 use Rattle.tariffs.specs.Ranges.{length_lines}
-use Rattle.tariffs.proofs.SameLine.{same_line}
+use Rattle.tariffs.specs.Same.{same_line}
 use Rattle.sheets.specs.Book.{Book, book}
 use Rattle.keyfile.specs.Card.{line_in, card_in}
 use Rattle.keyfile.specs.Files.{IsReadAgain}
@@ -20,10 +20,10 @@ use Rattle.keyfile.specs.Works.{works_by_stage, spelled_sheet}
 use Rattle.keyfile.proofs.OnFiles.{number_then, along, what_is_written_is_read_again}
 use Rattle.keyinput.specs.declared.question.Question.{Question}
 use Rattle.keyinput.specs.declared.question.Question.TheVariants.{Front, Budget, Deadline}
-use Rattle.keyinput.specs.Batch.{Offer, offer, offer_in}
-use Rattle.keyinput.specs.Input.{asked, asked_by, key_in}
+use Rattle.keyinput.specs.Batch.{Offer, offer, offer_in, batch_in}
+use Rattle.keyinput.specs.Input.{asked}
 use Rattle.keyinput.specs.Question.{limit_in, question_in}
-use Rattle.keyinput.specs.Spelled.{spelled_line, spelled_card, spelled_question, spelled_input, LimitFits, SpelledInputsAreRead}
+use Rattle.keyinput.specs.Spelled.{spelled_line, spelled_card, spelled_question, LimitFits, SpelledInputsAreRead}
 
 -- a line of a card is in range, and a card that is not full takes it
 in_range : (l : Line) → line_in_range l.speed l.rate ≡ true
@@ -88,27 +88,28 @@ question_again (Budget limit) place fits = number_then 1 place (spelled limit) (
 question_again (Deadline limit) place fits = number_then 2 place (spelled limit) (asking place) (omega arith) ∙ limit_again Deadline (spelled 2) limit place fits
 
 pub spelled_inputs_are_read : SpelledInputsAreRead
-spelled_inputs_are_read key fits = record { read = sheet.read; same_works = sheet.same_works; accepted = ap value_of whole }
+spelled_inputs_are_read batch = record {
+  read = sheet.read;
+  same_works = sheet.same_works;
+  alone =
+      ap (λ l. value_of (batch_in (spelled_card lines ++ l))) (sym (append-nil written))
+      ∙ ap (λ (r : Reading Offer). value_of (then r ended)) (taken []);
+  asked = λ question fits.
+      ap (λ (r : Reading Offer). value_of (then r (λ offer left. then (question_in left) (λ question. ended (asked offer.lines offer.book question))))) (taken (spelled_question question))
+      ∙ ap (λ (r : Reading Question). value_of (then r (λ question. ended (asked lines sheet.read question)))) (question_again question (0 + length (spelled_card lines) + length written) fits);
+}
   where
     lines : List Line
-    lines = lines_of key.batch.card
+    lines = lines_of batch.card
 
-    sheet : IsReadAgain (book key.batch.sheet)
-    sheet = what_is_written_is_read_again key.batch.sheet
+    sheet : IsReadAgain (book batch.sheet)
+    sheet = what_is_written_is_read_again batch.sheet
 
     written : List ℕ
-    written = spelled_sheet (works_by_stage (book key.batch.sheet))
+    written = spelled_sheet (works_by_stage (book batch.sheet))
 
-    behind : Input
-    behind = input (0 + length (spelled_card lines) + length written) (spelled_question key.question)
-
-    read : offer_in (input 0 (spelled_input (asked_by key))) ≡ Ok (offer lines sheet.read, behind)
-    read =
+    taken : (rest : List ℕ) → offer_in (input 0 (spelled_card lines ++ (written ++ rest))) ≡ Ok (offer lines sheet.read, input (0 + length (spelled_card lines) + length written) rest)
+    taken rest =
         ap (λ (r : Reading (List Line)). then r (λ lines left. then (sheet_in left) (λ book left. Ok (offer lines book, left))))
-        (card_again lines 0 (written ++ spelled_question key.question) (let c = key.batch.card.counted in omega (arith, length_lines key.batch.card)))
-        ∙ ap (λ (r : Reading Book). then r (λ book left. Ok (offer lines book, left))) (sheet.followed (0 + length (spelled_card lines)) (spelled_question key.question))
-
-    whole : key_in (spelled_input (asked_by key)) ≡ Ok (asked lines sheet.read key.question, input (behind.place + length (spelled_question key.question)) [])
-    whole =
-        ap (λ (r : Reading Offer). then r (λ offer left. then (question_in left) (λ question. ended (asked offer.lines offer.book question)))) read
-        ∙ ap (λ (r : Reading Question). then r (λ question. ended (asked lines sheet.read question))) (question_again key.question behind.place fits)
+        (card_again lines 0 (written ++ rest) (let c = batch.card.counted in omega (arith, length_lines batch.card)))
+        ∙ ap (λ (r : Reading Book). then r (λ book left. Ok (offer lines book, left))) (sheet.followed (0 + length (spelled_card lines)) rest)

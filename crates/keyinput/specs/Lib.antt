@@ -2,3 +2,4 @@ pub mod Batch
 pub mod Question
 pub mod Input
 pub mod Spelled
+pub mod Deciding

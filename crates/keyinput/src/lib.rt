@@ -3,6 +3,7 @@
 
 mod batch;
 mod input;
+mod plain;
 mod question;
 
 pub use batch::{Batch, read_batch};

@@ -4,6 +4,7 @@
 mod line;
 mod lines;
 mod machine;
+mod plain;
 mod plan;
 mod point;
 

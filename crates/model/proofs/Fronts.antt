@@ -179,7 +179,7 @@ module _ {C : Type 0} {K : Kind C} (L : Laws K) where
   front_covers ps p i = let d = descend ps p in
       (d.0, in_front ps d.0 (elim d.1 [ inl e ↦ subst (λ (x : Point C). In x ps) (sym e) i | inr j ↦ j ]) d.3, d.2)
 
-  -- (a)
+  -- points below each point of either list
   pub covers_of_front : (ps qs : List (Point C)) → front_of K ps ≡ front_of K qs → Covers K qs ps
   covers_of_front ps qs e p i =
       let r = front_covers ps p i in

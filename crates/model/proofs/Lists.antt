@@ -63,6 +63,10 @@ module _ {A : Type 0} where
   not_empty (here e) = refl
   not_empty (later i) = refl
 
+  pub some_in : (xs : List A) → is_empty xs ≡ false → (x : A) × In x xs
+  some_in [] e = absurd (both_ways true e refl)
+  some_in (x ∷ xs) e = (x, here refl)
+
 module _ {A B : Type 0} (f : A → B) where
   pub in_map : {x : A} {xs : List A} → In x xs → In (f x) (map f xs)
   in_map (here e) = here (ap f e)

@@ -1,34 +1,34 @@
 -- Plans: they go by the first list that counts, and are assignments of the length and cost that were answered
-use Rattle.std.proofs.Common.{◌≡◌, ℕ, zero, suc, ◌+◌, ◌<◌, ◌≤◌, Bool, true, false, cond, List, [], ◌∷◌, map, length, get_or, Some, None, Option, sym, refl, ap, ◌∙◌, subst, ap₂, zero-le, le_trans, le_antisymm, arith}
+use Rattle.std.proofs.Common.{◌≡◌, ℕ, zero, suc, ◌+◌, ◌<◌, ◌≤◌, Bool, true, false, cond, ◌↔◌, List, [], ◌∷◌, map, length, get_or, Some, None, Ok, Option, sym, refl, ap, ◌∙◌, subst, ap₂, zero-le, le_trans, le_antisymm, arith}
 use Rattle.std.specs.List.{range_with_len, slice_get}
 use Rattle.std.specs.Option.{option_map}
 use Rattle.std.proofs.lemmas.List.FromFn.{length-map-range_with_len, get_or-map-range_with_len}
 use Rattle.std.proofs.lemmas.List.{length-map}
-use Rattle.std.proofs.lemmas.Bool.{both_ways}
 use Rattle.costs.specs.Kind.{Kind, Laws}
 use Rattle.tariffs.specs.Meaning.{Meaning, Ranged}
 use Rattle.tariffs.specs.declared.quote.Quote.{Quote}
 use Rattle.sheets.specs.Book.{Book}
 use Rattle.sheets.specs.History.{Sound, book_after}
 use Rattle.sheets.specs.Tasks.{SoundTask, stands_in}
+use Rattle.sheets.specs.declared.call.Call.{Call}
 use Rattle.sheets.specs.declared.task.Task.{Task}
 use Rattle.sheets.proofs.Histories.{book_sound}
 use Rattle.model.specs.declared.choice.Choice.{Choice}
 use Rattle.model.specs.declared.point.Point.{Point}
 use Rattle.model.specs.Lists.{In, here, later, Paired, total}
 use Rattle.model.specs.Assignment.{stage_tasks, standing, Quoted, IsAssignment, charge_of, stage_time, stage_cost, length_of, cost_of, pair_of, pairs, HasPair}
-use Rattle.model.proofs.Shares.{bought_assigns, bought_affords, shares_of}
 use Rattle.model.specs.Allowance.{cheapest, cost_within, IsCheapest}
-use Rattle.model.specs.Limit.{IsBudget, IsDeadline}
-use Rattle.model.specs.Plan.{struck_byte, machine_or, list_cost, IsFirst, allowances_for, byte_under, plan, stage_machines, machines_of, IsPlan, PlansGoByTheFirstList, LimitsAreSharedOut, join_all, WithinShares, joined_shares, machines_bought}
+use Rattle.model.specs.Limit.{budget_result, deadline_result, IsBudget, IsDeadline}
+use Rattle.model.specs.Plan.{struck_byte, machine_or, list_cost, IsFirst, allowances_for, byte_under, plan, stage_machines, machines_of, IsPlan, PlansGoByTheFirstList}
 use Rattle.model.proofs.Assignments.{in_pairs, of_pairs, in_stage, of_stage}
 use Rattle.model.proofs.Fronts.{Best, same_point, no_worse_from, no_longer, no_dearer}
-use Rattle.model.proofs.LeastCosts.{at_most_refl, join_mono, reached}
+use Rattle.model.proofs.LeastCosts.{at_most_refl}
 use Rattle.model.proofs.Allowances.{some_cheapest}
 use Rattle.model.proofs.Rows.{best_drops}
-use Rattle.model.proofs.FirstLists.{joined_parts, list_above, first_list_first}
-use Rattle.model.proofs.LimitsInWords.{budget_words, deadline_words, none_affordable, none_in_time}
+use Rattle.model.proofs.FirstLists.{joined_parts, first_list_first}
+use Rattle.model.proofs.LimitsInWords.{budget_words, deadline_words}
 use Rattle.model.proofs.Unquoted.{all_in}
+use Rattle.model.proofs.OnePlan.{one_plan}
 
 -- look-ups
 nth_map : {A B : Type 0} (f : A → B) (xs : List A) (n : ℕ) (x : A) → slice_get xs n ≡ Some x → slice_get (map f xs) n ≡ Some (f x)
@@ -91,27 +91,6 @@ module _ {C : Type 0} {K : Kind C} (L : Laws K) (T : Meaning C) where
   stage_cost_some (tasks ∷ stages) [] c e j h = cc
   stage_cost_some (tasks ∷ stages) (a ∷ l) c e zero h = let r = joined_parts L (cost_within K T tasks a) (list_cost K T stages l) c e in (r.0, r.2)
   stage_cost_some (tasks ∷ stages) (a ∷ l) c e (suc j) h = let r = joined_parts L (cost_within K T tasks a) (list_cost K T stages l) c e in stage_cost_some stages l r.1 r.3 j (omega arith)
-
-  -- shares of a budget
-  cost_of_shares : (stages : List (List Task)) (shares : List C) (l : List ℕ) → WithinShares K T stages shares l → (c : C) × (list_cost K T stages l ≡ Some c) × (K.at_most c (join_all K shares) ≡ true)
-  cost_of_shares [] [] [] w = (K.neutral, refl, at_most_refl L K.neutral)
-  cost_of_shares [] [] (a ∷ l) w = absurd w
-  cost_of_shares [] (share ∷ shares) l w = absurd w
-  cost_of_shares (tasks ∷ stages) [] l w = absurd w
-  cost_of_shares (tasks ∷ stages) (share ∷ shares) [] w = absurd w
-  cost_of_shares (tasks ∷ stages) (share ∷ shares) (a ∷ l) w =
-      let x = w.0 in
-      let r = cost_of_shares stages shares l w.1 in
-      (K.join x.0 r.0, rw (x.1, r.1) refl, join_mono L x.0 share r.0 (join_all K shares) x.2 r.2)
-
-  shares_of_cost : (stages : List (List Task)) (l : List ℕ) (c : C) → list_cost K T stages l ≡ Some c → (shares : List C) × WithinShares K T stages shares l × (join_all K shares ≡ c)
-  shares_of_cost [] [] c e = ([], tt, (cc))
-  shares_of_cost [] (a ∷ l) c e = cc
-  shares_of_cost (tasks ∷ stages) [] c e = cc
-  shares_of_cost (tasks ∷ stages) (a ∷ l) c e =
-      let r = joined_parts L (cost_within K T tasks a) (list_cost K T stages l) c e in
-      let s = shares_of_cost stages l r.1 r.3 in
-      (r.0 ∷ s.0, ((r.0, r.2, at_most_refl L r.0), s.1), ap (K.join r.0) s.2 ∙ sym r.4)
 
   module _ (F : Ranged T) where
     abbrev StageAssigned : List Task → ℕ → C → List ℕ → Type 0
@@ -228,68 +207,30 @@ module _ {C : Type 0} {K : Kind C} (L : Laws K) (T : Meaning C) where
         let e : q.cost ≡ p.cost = L.antisymmetric _ _ (no_dearer L q p n) (h.cheapest q hq (le_trans (no_longer L q p n) h.within)) in
         same_point q p (le_antisymm (no_longer L q p n) (h.shortest q hq e)) e
 
-    -- an allowance list is no better than some assignment
-    list_pair : (l : List ℕ) (c : C) → list_cost K T stages l ≡ Some c → (q : Point C) × HasPair K T stages q × (q.length ≤ total l) × (K.at_most q.cost c ≡ true)
-    list_pair l c e =
-        let a = list_above L T F stages l c e in
-        let r = reached L T F stages (total l) a.0 a.1 in
-        (pair_of K T stages r.0, (r.0, r.1, refl), r.2, subst (λ (x : C). K.at_most x c ≡ true) r.3 a.2)
+-- the plan of a result is computed
+record Computed {C : Type 0} (K : Kind C) (T : Meaning C) (book : Book) : Type 0 where
+  pub budgets : (limit : C) (p : Point C) → budget_result K T book limit ≡ Ok p → IsPlan K T book p (plan K T book p)
+  pub deadlines : (limit : ℕ) (p : Point C) → deadline_result K T book limit ≡ Ok p → IsPlan K T book p (plan K T book p)
 
 module _ {C : Type 0} {K : Kind C} (L : Laws K) where
-  pub plans_go_by_the_first_list : PlansGoByTheFirstList K
-  plans_go_by_the_first_list T F calls =
+  plans_computed : (T : Meaning C) → Ranged T → (calls : List Call) → Computed K T (book_after calls)
+  plans_computed T F calls =
       let b = book_after calls in
       record {
         budgets = λ c p e. let h = (budget_words L T F b (book_sound calls) c p).1 e in plan_is L T F b (book_sound calls) p h.has (budget_best L T F (standing b) c p h);
         deadlines = λ d p e. let h = (deadline_words L T F b (book_sound calls) d p).1 e in plan_is L T F b (book_sound calls) p h.has (deadline_best L T F (standing b) d p h);
       }
 
-  pub limits_are_shared_out : LimitsAreSharedOut K
-  limits_are_shared_out T F calls =
-      let b = book_after calls in
-      let planned = plans_go_by_the_first_list T F calls in
+  pub plans_go_by_the_first_list : PlansGoByTheFirstList K
+  plans_go_by_the_first_list T F calls =
+      let computed = plans_computed T F calls in
       record {
-        deadline_reached = λ d p e.
-            let f = (planned.deadlines d p e).first.0 in
-            let h = (deadline_words L T F b (book_sound calls) d p).1 e in
-            ((planned.deadlines d p e).allowances, (let w = h.within in omega (arith, f.0)), f.1);
-        deadline_least = λ d p e l c s k.
-            let h = (deadline_words L T F b (book_sound calls) d p).1 e in
-            let q = list_pair L T F (standing b) l c k in
-            L.transitive _ _ _ (h.cheapest q.0 q.1 (le_trans q.2 s)) q.3;
-        budget_reached = λ c p e.
-            let f = (planned.budgets c p e).first.0 in
-            let h = (budget_words L T F b (book_sound calls) c p).1 e in
-            ((planned.budgets c p e).allowances, p.cost, f.0, f.1, h.within);
-        budget_least = λ c p e l x k m.
-            let h = (budget_words L T F b (book_sound calls) c p).1 e in
-            let q = list_pair L T F (standing b) l x k in
-            le_trans (h.shortest q.0 q.1 (L.transitive _ _ _ q.3 m)) q.2;
-        shares_reached = λ c p e.
-            let f = (planned.budgets c p e).first.0 in
-            let h = (budget_words L T F b (book_sound calls) c p).1 e in
-            let s = shares_of_cost L T (standing b) (planned.budgets c p e).allowances p.cost f.1 in
-            (s.0, (planned.budgets c p e).allowances, subst (λ (x : C). K.at_most x c ≡ true) (sym s.2) h.within, s.1, f.0);
-        shares_least = λ c p e shares l m w.
-            let h = (budget_words L T F b (book_sound calls) c p).1 e in
-            let s = cost_of_shares L T (standing b) shares l w in
-            let q = list_pair L T F (standing b) l s.0 s.1 in
-            le_trans (h.shortest q.0 q.1 (L.transitive _ _ _ q.3 (L.transitive _ _ _ s.2 m))) q.2;
-        tasks_reached = λ c p e.
-            let h = (budget_words L T F b (book_sound calls) c p).1 e in
-            let s = shares_of L T (standing b) h.has.0 h.has.1 in
-            let pays : joined_shares K s.shares ≡ p.cost = s.joins ∙ sym (ap (λ (q : Point C). q.cost) h.has.2) in
-            (s.shares, subst (λ (x : C). K.at_most x c ≡ true) (sym pays) h.within, s.bought, ap (length_of T (standing b)) s.machines ∙ sym (ap (λ (q : Point C). q.length) h.has.2));
-        tasks_least = λ c p e shares m bought.
-            let h = (budget_words L T F b (book_sound calls) c p).1 e in
-            h.shortest (pair_of K T (standing b) (machines_bought shares)) (machines_bought shares, bought_assigns L T (standing b) shares bought, refl) (L.transitive _ _ _ (bought_affords L T (standing b) shares bought) m);
-        deadline_none = λ d e l c s k.
-            let n = ((none_in_time L T F b d).1 e).1 in
-            let q = list_pair L T F (standing b) l c k in
-            let g = n q.0 q.1 in
-            omega (arith, q.2);
-        budget_none = λ c e l x k m.
-            let n = ((none_affordable L T F b c).1 e).1 in
-            let q = list_pair L T F (standing b) l x k in
-            both_ways _ (n q.0 q.1) (L.transitive _ _ _ q.3 m);
+        budgets = λ c p e. one p (computed.budgets c p e);
+        deadlines = λ d p e. one p (computed.deadlines d p e);
       }
+    where
+      one : (p : Point C) → IsPlan K T (book_after calls) p (plan K T (book_after calls) p) → (bytes : List ℕ) → IsPlan K T (book_after calls) p bytes ↔ (bytes ≡ plan K T (book_after calls) p)
+      one p h bytes = (
+        (λ k. one_plan L T (book_after calls) p bytes (plan K T (book_after calls) p) k h),
+        (λ e. subst (IsPlan K T (book_after calls) p) (sym e) h),
+      )

@@ -1,15 +1,15 @@
 -- A budget shared out among stages and tasks
-use Rattle.std.proofs.Common.{◌≡◌, ℕ, true, List, [], ◌∷◌, map, sym, refl, ap, subst, ap₂}
+use Rattle.std.proofs.Common.{◌≡◌, ℕ, true, List, [], ◌∷◌, sym, refl, ap, subst, ap₂}
 use Rattle.costs.specs.Kind.{Kind, Laws}
 use Rattle.tariffs.specs.Meaning.{Meaning}
 use Rattle.sheets.specs.declared.task.Task.{Task}
 use Rattle.model.specs.Lists.{Paired}
 use Rattle.model.specs.Assignment.{Quoted, IsAssignment, charge_of, stage_cost, cost_of}
-use Rattle.model.specs.Plan.{join_all, Bought, joined_shares, machines_bought}
+use Rattle.model.specs.Equations.{joined_in_stage, joined_shares, bought_in_stage, machines_bought, Bought}
 use Rattle.model.proofs.LeastCosts.{at_most_refl, join_mono}
 
 module _ {C : Type 0} {K : Kind C} (L : Laws K) (T : Meaning C) where
-  stage_bought : (tasks : List Task) (shares : List (C × ℕ)) → Paired (Bought K T) tasks shares → Paired (Quoted T) tasks (map (λ share. share.1) shares)
+  pub stage_bought : (tasks : List Task) (shares : List (C × ℕ)) → Paired (Bought K T) tasks shares → Paired (Quoted T) tasks (bought_in_stage shares)
   stage_bought [] [] b = tt
   stage_bought [] (s ∷ ss) b = absurd b
   stage_bought (t ∷ ts) [] b = absurd b
@@ -22,7 +22,7 @@ module _ {C : Type 0} {K : Kind C} (L : Laws K) (T : Meaning C) where
   bought_assigns (t ∷ ts) [] b = absurd b
   bought_assigns (t ∷ ts) (s ∷ ss) b = (stage_bought t s b.0, bought_assigns ts ss b.1)
 
-  stage_affords : (tasks : List Task) (shares : List (C × ℕ)) → Paired (Bought K T) tasks shares → K.at_most (stage_cost K T tasks (map (λ share. share.1) shares)) (join_all K (map (λ share. share.0) shares)) ≡ true
+  pub stage_affords : (tasks : List Task) (shares : List (C × ℕ)) → Paired (Bought K T) tasks shares → K.at_most (stage_cost K T tasks (bought_in_stage shares)) (joined_in_stage K shares) ≡ true
   stage_affords [] [] b = at_most_refl L K.neutral
   stage_affords [] (s ∷ ss) b = absurd b
   stage_affords (t ∷ ts) [] b = absurd b
@@ -45,13 +45,13 @@ module _ {C : Type 0} {K : Kind C} (L : Laws K) (T : Meaning C) where
     pub machines : machines_bought shares ≡ plan
     pub joins : joined_shares K shares ≡ cost_of K T stages plan
 
-  record StageShared (tasks : List Task) (plan : List ℕ) : Type 0 where
-    shares : List (C × ℕ)
-    bought : Paired (Bought K T) tasks shares
-    machines : map (λ share. share.1) shares ≡ plan
-    joins : join_all K (map (λ share. share.0) shares) ≡ stage_cost K T tasks plan
+  pub record StageShared (tasks : List Task) (plan : List ℕ) : Type 0 where
+    pub shares : List (C × ℕ)
+    pub bought : Paired (Bought K T) tasks shares
+    pub machines : bought_in_stage shares ≡ plan
+    pub joins : joined_in_stage K shares ≡ stage_cost K T tasks plan
 
-  stage_shares : (tasks : List Task) (plan : List ℕ) → Paired (Quoted T) tasks plan → StageShared tasks plan
+  pub stage_shares : (tasks : List Task) (plan : List ℕ) → Paired (Quoted T) tasks plan → StageShared tasks plan
   stage_shares [] [] q = record { shares = []; bought = tt; machines = refl; joins = refl }
   stage_shares [] (m ∷ ms) q = absurd q
   stage_shares (t ∷ ts) [] q = absurd q

@@ -41,6 +41,10 @@ module _ {C : Type 0} (T : Meaning C) where
   abbrev pub IsAssignment : List (List Task) → List (List ℕ) → Type 0
   IsAssignment stages plan = Paired (Paired Quoted) stages plan
 
+  -- there is an assignment of the book's standing tasks
+  abbrev pub HasAssignment : Book → Type 0
+  HasAssignment book = (plan : List (List ℕ)) × IsAssignment (standing book) plan
+
   -- the machines that quote a task
   abbrev pub quoting : Task → List ℕ
   quoting task = filter (λ machine. is_some (quote_of task machine)) (range_with_len 0 T.count)

@@ -8,7 +8,7 @@ use Rattle.sheets.specs.declared.call.Call.{Call}
 use Rattle.sheets.specs.declared.task.Task.{Task}
 use Rattle.model.specs.declared.point.Point.{Point}
 use Rattle.model.specs.Lists.{In, any}
-use Rattle.model.specs.Assignment.{standing, pairs, HasPair, Unquoted}
+use Rattle.model.specs.Assignment.{standing, pairs, HasAssignment, HasPair, Unquoted}
 
 module _ {C : Type 0} where
   -- put in by rising length; a pair of a length that is there already is dropped
@@ -67,5 +67,6 @@ FrontListsUnbeatenPairs {C} K =
 pub record FrontsWithoutStagesOrQuotes {C : Type 0} (K : Kind C) : Type 0 where
   -- without stages the only pair is 0 minutes at the neutral cost
   pub no_stages : (T : Meaning C) (calls : List Call) → (book_after calls).stages ≡ 0 → front K T (book_after calls) ≡ record { length = 0; cost = K.neutral } ∷ []
-  -- a standing task without any quote makes the front empty
-  pub no_quote : (T : Meaning C) → Ranged T → (calls : List Call) (n : ℕ) → Unquoted T (book_after calls) n → front K T (book_after calls) ≡ []
+  -- the front is empty exactly where some standing task has no quote, and exactly where there is no assignment
+  pub no_quote : (T : Meaning C) → Ranged T → (calls : List Call) → (front K T (book_after calls) ≡ []) ↔ ((n : ℕ) × Unquoted T (book_after calls) n)
+  pub no_assignment : (T : Meaning C) → Ranged T → (calls : List Call) → (front K T (book_after calls) ≡ []) ↔ (HasAssignment T (book_after calls) → ⊥)

@@ -5,6 +5,9 @@ pub mod Allowance
 pub mod Cell
 pub mod Scan
 pub mod Limit
+pub mod FrontAnswers
 pub mod Plan
+pub mod Equations
 pub mod Question
 pub mod Bargain
+pub mod Better

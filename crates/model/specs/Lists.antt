@@ -1,5 +1,5 @@
 -- Words on lists
-use Rattle.std.specs.Prelude.{◌≡◌, ℕ, ◌+◌, Bool, true, false, cond, ◌||◌, List, [], ◌∷◌, ◌++◌, map, Some, None, Option}
+use Rattle.std.specs.Prelude.{◌≡◌, ℕ, ◌+◌, max, Bool, true, false, cond, ◌||◌, List, [], ◌∷◌, ◌++◌, map, Some, None, Option}
 
 -- x is one of the list
 pub data In {A : Type 0} (x : A) : List A → Type 0 where
@@ -47,3 +47,8 @@ least before (x ∷ xs) = lesser before x (least before xs)
 abbrev pub total : List ℕ → ℕ
 total [] = 0
 total (n ∷ ns) = n + total ns
+
+-- the greatest of a list of numbers, 0 without any
+abbrev pub greatest : List ℕ → ℕ
+greatest [] = 0
+greatest (n ∷ ns) = max n (greatest ns)

@@ -1,19 +1,17 @@
 -- Allowance lists and plans
-use Rattle.std.specs.Prelude.{◌≡◌, ℕ, zero, suc, ◌+◌, ◌-◌, ◌<◌, ◌≤◌, Bool, true, false, cond, ◌⊎◌, List, [], ◌∷◌, map, length, Some, None, Ok, Err, Option, ◌≢◌, slice_index}
+use Rattle.std.specs.Prelude.{◌≡◌, ℕ, zero, suc, ◌+◌, ◌-◌, ◌<◌, Bool, true, false, cond, ◌⊎◌, ◌↔◌, List, [], ◌∷◌, map, length, Some, None, Ok, Option, slice_index}
 use Rattle.std.specs.List.{range_with_len, slice_get}
-use Rattle.refusals.specs.Answer.{plain}
 use Rattle.costs.specs.Kind.{Kind}
 use Rattle.tariffs.specs.Meaning.{Meaning, Ranged}
 use Rattle.sheets.specs.Book.{Book}
 use Rattle.sheets.specs.History.{book_after}
 use Rattle.sheets.specs.declared.call.Call.{Call}
 use Rattle.sheets.specs.declared.task.Task.{Task}
-use Rattle.tariffs.specs.declared.quote.Quote.{Quote}
 use Rattle.model.specs.declared.choice.Choice.{Choice}
 use Rattle.model.specs.declared.point.Point.{Point}
-use Rattle.model.specs.Lists.{total, Paired}
+use Rattle.model.specs.Lists.{total}
 use Rattle.sheets.specs.Tasks.{stands_in}
-use Rattle.model.specs.Assignment.{standing, quote_of, IsAssignment, length_of, charge_of, cost_of, pair_of}
+use Rattle.model.specs.Assignment.{standing, quote_of, IsAssignment, charge_of, cost_of, pair_of}
 use Rattle.model.specs.Allowance.{joined, cheapest, cost_within, IsCheapest}
 use Rattle.model.specs.Cell.{least_cost}
 use Rattle.model.specs.Limit.{budget_result, deadline_result}
@@ -126,68 +124,13 @@ pub record IsPlan {C : Type 0} (K : Kind C) (T : Meaning C) (book : Book) (p : P
   pub assigns : IsAssignment T (standing book) (machines_of book bytes)
   pub pays : pair_of K T (standing book) (machines_of book bytes) ≡ p
 
--- every result of a budget or a deadline has its plan
+-- every result of a budget or a deadline has its plan, and no other bytes are one
 pub record Planned {C : Type 0} (K : Kind C) (T : Meaning C) (book : Book) : Type 0 where
-  pub budgets : (limit : C) (p : Point C) → budget_result K T book limit ≡ Ok p → IsPlan K T book p (plan K T book p)
-  pub deadlines : (limit : ℕ) (p : Point C) → deadline_result K T book limit ≡ Ok p → IsPlan K T book p (plan K T book p)
+  pub budgets : (limit : C) (p : Point C) → budget_result K T book limit ≡ Ok p →
+      (bytes : List ℕ) → IsPlan K T book p bytes ↔ (bytes ≡ plan K T book p)
+  pub deadlines : (limit : ℕ) (p : Point C) → deadline_result K T book limit ≡ Ok p →
+      (bytes : List ℕ) → IsPlan K T book p bytes ↔ (bytes ≡ plan K T book p)
 
 -- for every tariff in the cost kind and every history of calls
 abbrev pub PlansGoByTheFirstList : {C : Type 0} → Kind C → Type 0
 PlansGoByTheFirstList {C} K = (T : Meaning C) → Ranged T → (calls : List Call) → Planned K T (book_after calls)
-
--- the join of a list of costs
-abbrev pub join_all : {C : Type 0} → Kind C → List C → C
-join_all K [] = K.neutral
-join_all K (c ∷ cs) = K.join c (join_all K cs)
-
--- each stage costs at most its share of a budget within its allowance
-abbrev pub WithinShares : {C : Type 0} → Kind C → Meaning C → List (List Task) → List C → List ℕ → Type 0
-WithinShares K T [] [] [] = Unit {0}
-WithinShares K T [] [] (a ∷ allowances) = ⊥
-WithinShares K T [] (share ∷ shares) allowances = ⊥
-WithinShares K T (tasks ∷ stages) [] allowances = ⊥
-WithinShares K T (tasks ∷ stages) (share ∷ shares) [] = ⊥
-WithinShares {C} K T (tasks ∷ stages) (share ∷ shares) (a ∷ allowances) =
-    ((c : C) × (cost_within K T tasks a ≡ Some c) × (K.at_most c share ≡ true)) × WithinShares K T stages shares allowances
-
--- a task takes a machine with its share: the quote costs at most the share
-abbrev pub Bought : {C : Type 0} → Kind C → Meaning C → Task → (C × ℕ) → Type 0
-Bought {C} K T task share = (q : Quote C) × (quote_of T task share.1 ≡ Some q) × (K.at_most q.cost share.0 ≡ true)
-
--- the join of all tasks' shares, and the machines that they take
-abbrev pub joined_shares : {C : Type 0} → Kind C → List (List (C × ℕ)) → C
-joined_shares K shares = join_all K (map (λ stage. join_all K (map (λ share. share.0) stage)) shares)
-
-abbrev pub machines_bought : {C : Type 0} → List (List (C × ℕ)) → List (List ℕ)
-machines_bought shares = map (λ stage. map (λ share. share.1) stage) shares
-
--- limits shared out among the stages: the cost under a deadline is the least over allowance lists within it; the length
--- under a budget is the least total of an allowance list whose joined stage costs are within it
-pub record SharedOut {C : Type 0} (K : Kind C) (T : Meaning C) (book : Book) : Type 0 where
-  pub deadline_reached : (limit : ℕ) (p : Point C) → deadline_result K T book limit ≡ Ok p →
-      (allowances : List ℕ) × (total allowances ≤ limit) × (list_cost K T (standing book) allowances ≡ Some p.cost)
-  pub deadline_least : (limit : ℕ) (p : Point C) → deadline_result K T book limit ≡ Ok p →
-      (allowances : List ℕ) (c : C) → total allowances ≤ limit → list_cost K T (standing book) allowances ≡ Some c → K.at_most p.cost c ≡ true
-  pub budget_reached : (limit : C) (p : Point C) → budget_result K T book limit ≡ Ok p →
-      (allowances : List ℕ) × (c : C) × (total allowances ≡ p.length) × (list_cost K T (standing book) allowances ≡ Some c) × (K.at_most c limit ≡ true)
-  pub budget_least : (limit : C) (p : Point C) → budget_result K T book limit ≡ Ok p →
-      (allowances : List ℕ) (c : C) → list_cost K T (standing book) allowances ≡ Some c → K.at_most c limit ≡ true → p.length ≤ total allowances
-  -- the same over all ways to share the budget itself out among the stages
-  pub shares_reached : (limit : C) (p : Point C) → budget_result K T book limit ≡ Ok p →
-      (shares : List C) × (allowances : List ℕ) × (K.at_most (join_all K shares) limit ≡ true) × WithinShares K T (standing book) shares allowances × (total allowances ≡ p.length)
-  pub shares_least : (limit : C) (p : Point C) → budget_result K T book limit ≡ Ok p →
-      (shares : List C) (allowances : List ℕ) → K.at_most (join_all K shares) limit ≡ true → WithinShares K T (standing book) shares allowances → p.length ≤ total allowances
-  -- the same over all ways to share the budget out among stages and tasks
-  pub tasks_reached : (limit : C) (p : Point C) → budget_result K T book limit ≡ Ok p →
-      (shares : List (List (C × ℕ))) × (K.at_most (joined_shares K shares) limit ≡ true) × Paired (Paired (Bought K T)) (standing book) shares × (length_of T (standing book) (machines_bought shares) ≡ p.length)
-  pub tasks_least : (limit : C) (p : Point C) → budget_result K T book limit ≡ Ok p →
-      (shares : List (List (C × ℕ))) → K.at_most (joined_shares K shares) limit ≡ true → Paired (Paired (Bought K T)) (standing book) shares → p.length ≤ length_of T (standing book) (machines_bought shares)
-  -- refusal 10: no list is within the limit
-  pub deadline_none : (limit : ℕ) → deadline_result K T book limit ≡ Err (plain 10) →
-      (allowances : List ℕ) (c : C) → total allowances ≤ limit → list_cost K T (standing book) allowances ≢ Some c
-  pub budget_none : (limit : C) → budget_result K T book limit ≡ Err (plain 10) →
-      (allowances : List ℕ) (c : C) → list_cost K T (standing book) allowances ≡ Some c → K.at_most c limit ≢ true
-
--- for every tariff in the cost kind and every history of calls
-abbrev pub LimitsAreSharedOut : {C : Type 0} → Kind C → Type 0
-LimitsAreSharedOut {C} K = (T : Meaning C) → Ranged T → (calls : List Call) → SharedOut K T (book_after calls)

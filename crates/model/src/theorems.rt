@@ -3,10 +3,13 @@ ghost use Rattle.costs.specs.Kind.{Laws};
 ghost use Rattle.model.specs.Allowance.{CheapestIsCheapest, GreatestTimesAreQuoted};
 ghost use Rattle.model.specs.Assignment.{AssignmentsAreAll};
 ghost use Rattle.model.specs.Bargain.{EnoughMemoryIsAnswered, EqualFrontsMeanSameBargains};
+ghost use Rattle.model.specs.Better.{BetterBargainsAreShown};
 ghost use Rattle.model.specs.Cell.{CellsStandAtTheirPlaces, LeastCostsShareOutMinutes};
+ghost use Rattle.model.specs.Equations.{LimitsAreSharedOut};
 ghost use Rattle.model.specs.Front.{FrontListsUnbeatenPairs, FrontsWithoutStagesOrQuotes};
+ghost use Rattle.model.specs.FrontAnswers.{FrontsAnswerLimits};
 ghost use Rattle.model.specs.Limit.{LimitsGiveBestPairs};
-ghost use Rattle.model.specs.Plan.{LimitsAreSharedOut, PlansGoByTheFirstList, StagesJoinAllCosts};
+ghost use Rattle.model.specs.Plan.{PlansGoByTheFirstList, StagesJoinAllCosts};
 ghost use Rattle.model.specs.Question.{QuestionsKeepMemory, RefusedQuestionsAlterNothing};
 ghost use Rattle.model.specs.Scan.{FrontIsWhereCostsDrop};
 
@@ -36,10 +39,13 @@ pub fn front_lists_unbeaten_pairs<C: Cost>()
     laws_hold::<C>();
 }
 
-// Without stages the front is 0 minutes at the neutral cost; with a standing task that has no quote it is empty.
+// Without stages the front is 0 minutes at the neutral cost; it is empty exactly where a standing task has no quote, and
+// exactly where there is no assignment.
 pub fn fronts_without_stages_or_quotes<C: Cost>()
     ensures { FrontsWithoutStagesOrQuotes C.Cost.kind }
-{}
+{
+    laws_hold::<C>();
+}
 
 // The choice within an allowance is the cheapest, the lowest machine among equals.
 pub fn cheapest_is_cheapest<C: Cost>()
@@ -79,14 +85,23 @@ pub fn limits_give_best_pairs<C: Cost>()
     laws_hold::<C>();
 }
 
-// A plan goes by the first allowance list, and is an assignment of the length and cost that were answered.
+// Below every pair there is a point of the front; a budget is answered by the first point within it, a deadline by the
+// last, and each is refused exactly where no point is within it.
+pub fn fronts_answer_limits<C: Cost>()
+    ensures { FrontsAnswerLimits C.Cost.kind }
+{
+    laws_hold::<C>();
+}
+
+// The plan computed goes by the first allowance list, and is an assignment of the length and cost that were answered; no
+// other bytes do.
 pub fn plans_go_by_the_first_list<C: Cost>()
     ensures { PlansGoByTheFirstList C.Cost.kind }
 {
     laws_hold::<C>();
 }
 
-// What a limit gives is the best over all ways to share the limit out among the stages.
+// What a limit gives is the best over all ways to share the limit out among stages and tasks: the two equations.
 pub fn limits_are_shared_out<C: Cost>()
     ensures { LimitsAreSharedOut C.Cost.kind }
 {
@@ -103,15 +118,23 @@ pub fn refused_questions_alter_nothing<C: Cost>()
     ensures { RefusedQuestionsAlterNothing C.Cost.kind }
 {}
 
-// With memory enough, a question answers what book, tariff and limit decide.
+// In memory that suffices, a question gives what book, tariff and limit decide.
 pub fn enough_memory_is_answered<C: Cost>()
     ensures { EnoughMemoryIsAnswered C.Cost.kind }
 {}
 
-// Two sheets, each under its tariff, have equal fronts exactly when each assignment of either is matched by the other,
-// and exactly when every budget and every deadline gets the same answer.
+// What the questions on two sheets, each under its tariff, give is what the words say; and the sheets have equal fronts
+// exactly when each assignment of either is matched by the other, and exactly when every limit gets the same answer.
 pub fn equal_fronts_mean_same_bargains<C: Cost>()
     ensures { EqualFrontsMeanSameBargains C.Cost.kind }
+{
+    laws_hold::<C>();
+}
+
+// The better bargain of two sheets means what the words say, there is none exactly when the fronts are equal, and it
+// stands where the fronts first differ.
+pub fn better_bargains_are_shown<C: Cost>()
+    ensures { BetterBargainsAreShown C.Cost.kind }
 {
     laws_hold::<C>();
 }

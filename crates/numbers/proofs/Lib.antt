@@ -1,2 +1,3 @@
 pub mod OnGroups
 pub mod OnSpellings
+pub mod OnMore

@@ -38,6 +38,21 @@ limit_of_one (suc k) b few h = omega (arith, pow_below 7 (7 * suc k + 4) (omega 
 pub below_25 : (more high : ℕ) → more ≤ 4 → (more ≡ 0 → ⊥) → high < limit (more - 1) → high < 2 ^ 25
 below_25 more high h n l = let p : 2 ^ (7 * (more - 1) + 4) ≤ 2 ^ 25 = pow_mono {j = 25} (omega arith) in omega arith
 
+pub last_length : (more n : ℕ) → n < 128 → length (groups more n) ≡ 1
+last_length more n h = ap length (one_group more n (inr h))
+
+-- a first byte that goes on, and the groups behind it
+module _ (first : ℕ) (goes_on : 128 ≤ first) (more high : ℕ) (some_more : more ≡ 0 → ⊥) (byte : first < 256) (some : 0 < high) where
+  further_is : groups more (high * 128 + first % 128) ≡ first ∷ groups (more - 1) high
+  further_is =
+      let joined = high * 128 + first % 128 in
+      let d : joined / 128 ≡ high = omega arith in
+      let m : 128 + joined % 128 ≡ first = omega arith in
+      more_groups more joined some_more (omega arith) ∙ rw (d, m) refl
+
+  pub further_length : length (groups more (high * 128 + first % 128)) ≡ suc (length (groups (more - 1) high))
+  further_length = ap length further_is
+
 -- bytes with a first one, and what stands at their start
 module _ (bytes : List ℕ) (first : ℕ) (rest : List ℕ) (parted : bytes ≡ first ∷ rest) where
   pub last_group : (more : ℕ) → (more ≡ 0 → first < 16) → first < 128 → (first < limit more) × (bytes ≡ groups more first ++ rest)
@@ -47,8 +62,5 @@ module _ (bytes : List ℕ) (first : ℕ) (rest : List ℕ) (parted : bytes ≡ 
   module _ (goes_on : 128 ≤ first) where
     pub further_group : (more high : ℕ) (behind : List ℕ) → (more ≡ 0 → ⊥) → first < 256 → 0 < high → (high < limit (more - 1)) × (rest ≡ groups (more - 1) high ++ behind) → (high * 128 + first % 128 < limit more) × (bytes ≡ groups more (high * 128 + first % 128) ++ behind)
     further_group more high behind n byte some found =
-        let joined = high * 128 + first % 128 in
-        let d : joined / 128 ≡ high = omega arith in
-        let m : 128 + joined % 128 ≡ first = omega arith in
-        let spelt : groups more joined ≡ first ∷ groups (more - 1) high = more_groups more joined n (omega arith) ∙ rw (d, m) refl in
+        let spelt = further_is first goes_on more high n byte some in
         (limit_before more high first n found.0, parted ∙ ap (λ l. first ∷ l) found.1 ∙ sym (ap (λ l. l ++ behind) spelt))

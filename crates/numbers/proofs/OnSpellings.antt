@@ -1,5 +1,5 @@
 -- Spellings are read, and nothing else is
-use Rattle.std.proofs.Common.{◌≡◌, ℕ, zero, suc, ◌+◌, ◌-◌, ◌*◌, ◌/◌, ◌%◌, ◌<◌, ◌≤◌, Bool, true, false, List, [], ◌∷◌, ◌++◌, length, get_or, drop, Ok, Err, sym, refl, ap, ◌∙◌, inr, ⊎_elim, arith, length-append}
+use Rattle.std.proofs.Common.{◌≡◌, ℕ, zero, suc, ◌+◌, ◌-◌, ◌*◌, ◌/◌, ◌%◌, ◌<◌, ◌≤◌, Bool, true, false, List, [], ◌∷◌, ◌++◌, length, get_or, drop, Ok, Err, sym, refl, ap, ◌∙◌, inr, ⊎_elim, arith}
 use Rattle.std.proofs.lemmas.List.{drop_at}
 use Rattle.std.proofs.lemmas.Bool.{both_ways, lt-leb, le-leb, leb-true, leb-false, ltb-false, le-ltb, ne_eqb, eqb-true, cases_lt, cases_Bool, and_left, and_right, and_parts, and_cases, or_from, or_parts, or_cases, cond-true, cond-false}
 use Rattle.refusals.specs.Answer.{Answer}
@@ -7,7 +7,7 @@ use Rattle.numbers.specs.Input.{Input, input, past, Reading, refused_at}
 use Rattle.numbers.specs.Number.{groups, limit, spelled, continues, ends_early, zero_first, misspelt, size, value, number_in}
 use Rattle.numbers.specs.declared.groups.Fault.{Fault}
 use Rattle.numbers.specs.declared.groups.Fault.TheVariants.{EndsEarly, Misspelt}
-use Rattle.numbers.specs.Fault.{Faulty, refusal_at}
+use Rattle.numbers.specs.Fault.{Taken, Faulty, refusal_at}
 use Rattle.numbers.specs.Refusal.{number_told}
 use Rattle.numbers.specs.Spellings.{OneSpelling, SpellingsAreRead, ByteString, SpelledAt, OnlySpellingsAreRead}
 use Rattle.numbers.proofs.OnGroups.{back, one_group, more_groups, limit_behind, last_group, further_group}
@@ -134,11 +134,11 @@ spelled_behind (suc more) (byte ∷ bytes) strung ended right =
         zeros zero rest = refl
         zeros (suc more) rest = refl
 
-not_refused : {A : Type 0} (applies : Bool) (number place : ℕ) (otherwise : Answer A) (found : A) → refused_at applies number place otherwise ≡ Ok found → (applies ≡ false) × (otherwise ≡ Ok found)
+pub not_refused : {A : Type 0} (applies : Bool) (number place : ℕ) (otherwise : Answer A) (found : A) → refused_at applies number place otherwise ≡ Ok found → (applies ≡ false) × (otherwise ≡ Ok found)
 not_refused true number place otherwise found e = cc
 not_refused false number place otherwise found e = (refl, e)
 
-found_same : {A : Type 0} (a b : A) → ◌≡◌ {A = Answer A} (Ok a) (Ok b) → a ≡ b
+pub found_same : {A : Type 0} (a b : A) → ◌≡◌ {A = Answer A} (Ok a) (Ok b) → a ≡ b
 found_same a b e = cc
 
 groups_spelled : (more : ℕ) (before : Input) (n : ℕ) (left : Input) → ByteString before.bytes → groups_in more before ≡ Ok (n, left) → (n < limit more) × (before.bytes ≡ groups more n ++ left.bytes) × (left.place ≡ before.place + length (groups more n))
@@ -177,15 +177,14 @@ misspelt_ends (suc more) (byte ∷ bytes) e =
 
 -- the ways in which reading a number ends
 module _ (before : Input) where
-  pub number_read : (n place : ℕ) (rest : List ℕ) → n < limit 4 → before.bytes ≡ groups 4 n ++ rest → place ≡ before.place + (length before.bytes - length rest) → (number_in before ≡ Ok (n, input place rest)) × SpelledAt before n (input place rest)
+  pub number_read : (n : ℕ) (left : Input) → Taken 4 before n left → (number_in before ≡ Ok (n, left)) × SpelledAt before n left
   unfolding spelled number_in
-  number_read n place rest h e at =
-      let l = length-append (groups 4 n) rest in
-      let whole = ap length e in
-      let count : place ≡ before.place + length (groups 4 n) = omega arith in (
-        ap (λ bytes. number_in (input before.place bytes)) e ∙ groups_read 4 n before.place rest h ∙ ap (λ p. Ok (n, input p rest)) (sym count),
-        record { fits = h; bytes = e; place = count },
-      )
+  number_read n left taken = (
+    ap (λ bytes. number_in (input before.place bytes)) taken.bytes
+        ∙ groups_read 4 n before.place left.bytes taken.fits
+        ∙ ap (λ place. Ok (n, input place left.bytes)) (sym taken.place),
+    record { fits = taken.fits; bytes = taken.bytes; place = taken.place },
+  )
 
   pub number_refused : (fault : Fault) → Faulty fault 4 before.bytes → number_in before ≡ Err (number_told (refusal_at fault before.place))
   unfolding number_in

@@ -1,9 +1,10 @@
 // The groups of seven bits of which a number's bytes are made.
-ghost use Rattle.std.specs.Prelude.{◌≡◌, ◌+◌, ◌*◌, ◌%◌, ◌^◌, ◌<◌, ◌≤◌, ◌++◌, Ok, Err};
-ghost use Rattle.numbers.specs.Number.{continues, groups, limit};
-ghost use Rattle.numbers.specs.Fault.{Faulty, refusal_at};
+ghost use Rattle.std.specs.Prelude.{◌≡◌, ◌+◌, ◌*◌, ◌%◌, ◌^◌, ◌<◌, ◌≤◌, Ok, Err};
+ghost use Rattle.numbers.specs.Number.{continues};
+ghost use Rattle.numbers.specs.Reader.{input_of};
+ghost use Rattle.numbers.specs.Fault.{Taken, Faulty, refusal_at};
 
-use crate::NumberRefusal;
+use crate::{NumberRefusal, Reader};
 
 const CONTINUES: u8 = 0x80;
 
@@ -14,9 +15,6 @@ pub(crate) const MORE_BYTES: u32 = 4;
 
 // The fifth byte has the four highest bits.
 const MAX_FIFTH: u8 = 0x0F;
-
-// In the shortest form the groups above one that continues are not all 0.
-const LEAST_HIGH: u32 = 1;
 
 // Why no number stands at the start of some bytes.
 #[derive(Clone, Copy)]
@@ -58,23 +56,30 @@ pub(crate) fn low_group(n: u32) -> u8
     CONTINUES | (n & u32::from(GROUP)) as u8
 }
 
-// The number at the start of the bytes, in at most so many bytes more than one, and the bytes behind it.
-pub(crate) fn take_groups(bytes: &[u8], more: u32) -> Result<(u32, &[u8]), Fault>
+// The number at the start of what is left, in at most so many bytes more than one, and what is left behind it. The place
+// is counted along, byte by byte.
+pub(crate) fn take_groups(reader: Reader<'_>, more: u32) -> Result<(u32, Reader<'_>), Fault>
     requires { more ≤ 4 }
-    ensures { elim result [ Ok found ↦ (found.0 < limit more) × (bytes.now ≡ groups more found.0 ++ found.1.now) | Err fault ↦ Faulty fault more bytes.now ] }
+    ensures { elim result [
+      | Ok found ↦ Taken more (input_of reader.entry) found.0 (input_of found.1)
+      | Err fault ↦ Faulty fault more reader.entry.rest.now
+    ] }
 {
-    let [first, rest @ ..] = bytes else {
+    let [first, rest @ ..] = reader.rest else {
         return Err(Fault::EndsEarly);
     };
     if more == 0 && *first > MAX_FIFTH {
         return Err(Fault::Misspelt);
     }
+    let place = reader.place + 1;
+    let behind = Reader { rest, place };
     if more == 0 || !continues(*first) {
-        return Ok((u32::from(*first), rest));
+        return Ok((u32::from(*first), behind));
     }
-    let (high, rest) = take_groups(rest, more - 1)?;
-    if high < LEAST_HIGH {
+    let (high, behind) = take_groups(behind, more - 1)?;
+    // In the shortest form the groups above one that continues are not all 0.
+    if high == 0 {
         return Err(Fault::Misspelt);
     }
-    Ok((joined(high, *first), rest))
+    Ok((joined(high, *first), behind))
 }

@@ -2,6 +2,7 @@
 #![tactic(auto)]
 
 mod groups;
+mod plain;
 mod reader;
 mod refusal;
 mod writing;

@@ -6,7 +6,7 @@ pub mod reading;
 // The bytes that are left, and the offset of the first of them in the input.
 #[derive(Clone, Copy)]
 pub struct Reader<'a> {
-    rest: &'a [u8],
-    place: usize,
+    pub(crate) rest: &'a [u8],
+    pub(crate) place: usize,
     ghost fits: { place + length rest.now < 2 ^ 64 },
 }

@@ -7,5 +7,8 @@ pub mod FirstList
 pub mod PlanBytes
 pub mod SamePoints
 pub mod Compared
+pub mod BetterTold
 pub mod Verdicts
 pub mod Words
+pub mod Equations
+pub mod OffTheFront

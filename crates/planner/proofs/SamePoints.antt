@@ -1,29 +1,9 @@
 -- Points compared one by one
-use Rattle.std.proofs.Common.{◌≡◌, Bool, true, false, ◌&&◌, List, [], ◌∷◌, length, refl, ap, subst, ap₂, ⊎_elim, arith}
-use Rattle.std.specs.List.{list_all, zip}
+use Rattle.std.proofs.Common.{◌≡◌, true, ◌&&◌, List, [], ◌∷◌, refl, subst, ap₂, ⊎_elim}
 use Rattle.std.proofs.lemmas.Bool.{and_parts, eqb-true, eq-eqb}
 use Rattle.costs.specs.Kind.{Kind, Laws}
 use Rattle.model.specs.declared.point.Point.{Point}
 use Rattle.planner.specs.Bargain.{same_point, same_points}
-
-module _ {C : Type 0} (K : Kind C) where
-  -- lists of different lengths differ
-  pub differ_in_length : (ps qs : List (Point C)) → (length ps ≡ length qs → ⊥) → same_points K ps qs ≡ false
-  differ_in_length [] [] e = absurd (e refl)
-  differ_in_length [] (q ∷ qs) e = refl
-  differ_in_length (p ∷ ps) [] e = refl
-  differ_in_length (p ∷ ps) (q ∷ qs) e = go (same_point K p q) (differ_in_length ps qs (λ h. e (omega arith)))
-    where
-      go : (b : Bool) → same_points K ps qs ≡ false → (b && same_points K ps qs) ≡ false
-      go true h = h
-      go false h = refl
-
-  -- lists as long as one another are compared pair by pair
-  pub same_zipped : (ps qs : List (Point C)) → length ps ≡ length qs → list_all (λ (pair : Point C × Point C). same_point K pair.0 pair.1) (zip ps qs) ≡ same_points K ps qs
-  same_zipped [] [] e = refl
-  same_zipped [] (q ∷ qs) e = absurd (omega arith)
-  same_zipped (p ∷ ps) [] e = absurd (omega arith)
-  same_zipped (p ∷ ps) (q ∷ qs) e = ap (λ b. same_point K p q && b) (same_zipped ps qs (omega arith))
 
 module _ {C : Type 0} {K : Kind C} (laws : Laws K) where
   refl_cost : (c : C) → K.at_most c c ≡ true

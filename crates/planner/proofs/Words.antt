@@ -1,5 +1,5 @@
 -- What the questions answer, in words
-use Rattle.std.proofs.Common.{◌≡◌, ℕ, ◌<◌, ◌≤◌, Bool, true, false, List, ◌++◌, length, take, drop, Ok, Err, Result, sym, ap, ◌∙◌, subst, arith, length-append}
+use Rattle.std.proofs.Common.{◌≡◌, ℕ, ◌<◌, ◌≤◌, Bool, true, false, List, ◌++◌, length, take, drop, Ok, Err, Result, refl, sym, ap, ◌∙◌, subst, arith, length-append}
 use Rattle.std.proofs.lemmas.List.{take_at, length-map}
 use Rattle.refusals.specs.Answer.{Answer, Refused, plain, carrying, answer_of, refused_if}
 use Rattle.costs.specs.Kind.{Kind, Laws}
@@ -13,25 +13,25 @@ use Rattle.model.specs.declared.point.Point.{Point}
 use Rattle.model.specs.Assignment.{standing, HasPair}
 use Rattle.model.specs.Front.{front, IsFront}
 use Rattle.model.specs.Limit.{budget_result, deadline_result, IsBudget, IsDeadline, IsLowestUnquoted, LimitsInWords, TooDear, TooLong}
-use Rattle.model.specs.Plan.{plan, allowances_for, byte_under, IsPlan, Planned, SharedOut}
+use Rattle.model.specs.Plan.{plan, allowances_for, byte_under, IsPlan, Planned}
 use Rattle.model.specs.Question.{few_cells, short_plan, limit_answer, limit_bytes}
 use Rattle.model.proofs.FrontsInWords.{front_in_words}
 use Rattle.model.proofs.LimitsInWords.{limits_give_best_pairs}
-use Rattle.model.proofs.Plans.{plans_go_by_the_first_list, limits_are_shared_out}
+use Rattle.model.proofs.Plans.{plans_go_by_the_first_list}
 use Rattle.planner.specs.declared.refusal.QuestionRefusal.{QuestionRefusal}
 use Rattle.planner.specs.declared.refusal.QuestionRefusal.TheVariants.{TooFewCells, TooShort, Unquoted, NoneWithin}
 use Rattle.planner.specs.Refusal.{question_told}
 use Rattle.planner.specs.Words.{HasPlan, LimitTells, BudgetTells, DeadlineTells}
 
 -- a refusal behind 7 and 8
-refused_behind : {A : Type 0} (few short : Bool) (result : Answer A) (refused : Refused) → 8 < refused.number → Err refused ≡ refused_if few 7 (refused_if short 8 result) → result ≡ Err refused
+pub refused_behind : {A : Type 0} (few short : Bool) (result : Answer A) (refused : Refused) → 8 < refused.number → Err refused ≡ refused_if few 7 (refused_if short 8 result) → result ≡ Err refused
 refused_behind true short result refused h e = let n : refused.number ≡ 7 = cc in absurd (omega arith)
 refused_behind false true result refused h e = let n : refused.number ≡ 8 = cc in absurd (omega arith)
 refused_behind false false result refused h e = sym e
 
 -- what the result of a limit says, be it a budget or a deadline
 pub record ResultSays {C : Type 0} (K : Kind C) (T : Meaning C) (b : Book) (IsBest TooMuch : Point C → Type 0) (result : Answer (Point C)) : Type 0 where
-  pub best : (p : Point C) → result ≡ Ok p → IsBest p × IsPlan K T b p (plan K T b p)
+  pub best : (p : Point C) → result ≡ Ok p → IsBest p × IsPlan K T b p (plan K T b p) × ((others : List ℕ) → IsPlan K T b p others → others ≡ plan K T b p)
   pub unquoted : (task : ℕ) → result ≡ Err (carrying 9 task) → IsLowestUnquoted T b task
   pub none_within : result ≡ Err (plain 10) → (p : Point C) → HasPair K T (standing b) p → TooMuch p
 
@@ -50,18 +50,14 @@ module _ {C : Type 0} {K : Kind C} (laws : Laws K) (T : Meaning C) (ranged : Ran
   plans_of : (sheet : Sheet) → Planned K T (book sheet)
   plans_of = of_every_sheet (Planned K T) (plans_go_by_the_first_list laws T ranged)
 
-  pub limits_shared_out : (sheet : Sheet) → SharedOut K T (book sheet)
-  limits_shared_out = of_every_sheet (SharedOut K T) (limits_are_shared_out laws T ranged)
-
   -- the plan stands at the start of what was written
-  has_plan : (b : Book) (p : Point C) (bytes after : List ℕ) → IsPlan K T b p (plan K T b p) → after ≡ plan K T b p ++ drop (length b.tasks) bytes → HasPlan K T b p after
-  has_plan b p bytes after planned written =
+  has_plan : (b : Book) (p : Point C) (bytes after : List ℕ) → IsPlan K T b p (plan K T b p) → ((others : List ℕ) → IsPlan K T b p others → others ≡ plan K T b p) → after ≡ plan K T b p ++ drop (length b.tasks) bytes → HasPlan K T b p after
+  has_plan b p bytes after planned alone written =
       let long : length (plan K T b p) ≡ length b.tasks = length-map b.tasks (byte_under K T (allowances_for K T b p)) in
       let whole = ap length written in
-      let longer = length-append (plan K T b p) (drop (length b.tasks) bytes) in (
-        omega arith,
-        subst (IsPlan K T b p) (sym (ap (take (length b.tasks)) written ∙ take_at (plan K T b p) _ _ long)) planned,
-      )
+      let longer = length-append (plan K T b p) (drop (length b.tasks) bytes) in
+      let start : take (length b.tasks) after ≡ plan K T b p = ap (take (length b.tasks)) written ∙ take_at (plan K T b p) _ _ long in
+      (omega arith, subst (IsPlan K T b p) (sym start) planned, λ others is. alone others is ∙ sym start)
 
   module _ (sheet : Sheet) where
     abbrev b : Book
@@ -69,14 +65,14 @@ module _ {C : Type 0} {K : Kind C} (laws : Laws K) (T : Meaning C) (ranged : Ran
 
     pub budget_says : (limit : C) → ResultSays K T b (IsBudget K T (standing b) limit) (TooDear K limit) (budget_result K T b limit)
     budget_says limit = record {
-      best = λ p e. (((limits_of sheet).budgets limit p).1 e, (plans_of sheet).budgets limit p e);
+      best = λ p e. let planned = (plans_of sheet).budgets limit p e in (((limits_of sheet).budgets limit p).1 e, (planned (plan K T b p)).1 refl, λ others. (planned others).0);
       unquoted = λ task. ((limits_of sheet).budget_unquoted limit task).1;
       none_within = λ e. (((limits_of sheet).none_affordable limit).1 e).1;
     }
 
     pub deadline_says : (limit : ℕ) → ResultSays K T b (IsDeadline K T (standing b) limit) (TooLong limit) (deadline_result K T b limit)
     deadline_says limit = record {
-      best = λ p e. (((limits_of sheet).deadlines limit p).1 e, (plans_of sheet).deadlines limit p e);
+      best = λ p e. let planned = (plans_of sheet).deadlines limit p e in (((limits_of sheet).deadlines limit p).1 e, (planned (plan K T b p)).1 refl, λ others. (planned others).0);
       unquoted = λ task. ((limits_of sheet).deadline_unquoted limit task).1;
       none_within = λ e. (((limits_of sheet).none_in_time limit).1 e).1;
     }
@@ -93,7 +89,7 @@ module _ {C : Type 0} {K : Kind C} (laws : Laws K) (T : Meaning C) (ranged : Ran
       limit_tells : {IsBest TooMuch : Point C → Type 0} {result : Answer (Point C)} → ResultSays K T b IsBest TooMuch result → WordsHold (LimitTells K T b IsBest TooMuch) result
       limit_tells says (Ok p) e w =
           let best = says.best p (sym (passed (short_plan T b bytes) 8 _ p (passed (few_cells T b cells) 7 _ p e).1).1) in
-          (best.0, has_plan b p bytes after best.1 (w ∙ ap (λ (a : Answer (Point C)). limit_bytes K T b a bytes) (sym e)))
+          (best.0, has_plan b p bytes after best.1 best.2 (w ∙ ap (λ (a : Answer (Point C)). limit_bytes K T b a bytes) (sym e)))
       limit_tells says (Err TooFewCells) e w = tt
       limit_tells says (Err TooShort) e w = tt
       limit_tells says (Err (Unquoted task)) e w = says.unquoted task (refused_behind _ _ _ (carrying 9 task) (omega arith) e)

@@ -1,18 +1,13 @@
 -- The question whether two sheets, each under its tariff, offer the same bargains
-use Rattle.std.specs.Prelude.{◌≡◌, Bool, true, false, cond, ◌&&◌, ◌||◌, ◌↔◌, List, [], ◌∷◌, ◌++◌, length, drop, Ok, Err, Result, ◌==◌, nat_lt}
+use Rattle.std.specs.Prelude.{Bool, true, false, cond, ◌&&◌, ◌||◌, List, [], ◌∷◌, ◌++◌, length, drop, Ok, ◌==◌, nat_lt}
 use Rattle.refusals.specs.Answer.{Answer, refused_if}
 use Rattle.costs.specs.Kind.{Kind}
 use Rattle.tariffs.specs.Meaning.{Meaning}
-use Rattle.sheets.specs.declared.call.Call.{Call}
-use Rattle.sheets.specs.declared.sheet.Sheet.{Sheet}
-use Rattle.sheets.specs.Book.{Book, book}
-use Rattle.sheets.specs.History.{book_after}
+use Rattle.sheets.specs.Book.{Book}
 use Rattle.model.specs.declared.cell.Cell.{Cell}
 use Rattle.model.specs.declared.point.Point.{Point}
 use Rattle.model.specs.Front.{front}
 use Rattle.model.specs.Question.{few_cells, filled}
-use Rattle.model.specs.Bargain.{Memory, Enough, Matched, SameAnswers, SameBargains}
-use Rattle.planner.specs.declared.refusal.QuestionRefusal.{QuestionRefusal}
 
 module _ {C : Type 0} (K : Kind C) where
   -- the same length, and costs at most each other
@@ -26,52 +21,42 @@ module _ {C : Type 0} (K : Kind C) where
   same_points (p ∷ ps) [] = false
   same_points (p ∷ ps) (q ∷ qs) = same_point p q && same_points ps qs
 
--- what the question answers and leaves: two sheets' books, each under its tariff, one cell memory and points for each
-module _ {C : Type 0} (K : Kind C) (T : Meaning C) (book : Book) (U : Meaning C) (other : Book) (cells : List (Cell C)) (mine yours : List (Point C)) where
+-- what the question answers and leaves, by the book of the first sheet under T and that of the second under U, with one
+-- memory of cells for both and points for each
+module _ {C : Type 0} (K : Kind C) (T : Meaning C) (first : Book) (U : Meaning C) (second : Book)
+    (cells : List (Cell C)) (first_points second_points : List (Point C)) where
   -- fewer cells than either front needs
-  abbrev pub few_for_both : Bool
-  few_for_both = few_cells T book cells || few_cells U other cells
+  abbrev pub few_for_either : Bool
+  few_for_either = few_cells T first cells || few_cells U second cells
 
-  -- points too short for the first front, and for the second
-  abbrev pub short_mine : Bool
-  short_mine = nat_lt (length mine) (length (front K T book))
+  -- the points of the first front are too short for it, and those of the second
+  abbrev pub first_too_short : Bool
+  first_too_short = nat_lt (length first_points) (length (front K T first))
 
-  abbrev pub short_yours : Bool
-  short_yours = nat_lt (length yours) (length (front K U other))
+  abbrev pub second_too_short : Bool
+  second_too_short = nat_lt (length second_points) (length (front K U second))
 
   -- whether the fronts are equal, or refusal 7 or 8
   abbrev pub bargains_answer : Answer Bool
   bargains_answer =
-      refused_if few_for_both 7
-      (refused_if (short_mine || short_yours) 8
-      (Ok (same_points K (front K T book) (front K U other))))
+      refused_if few_for_either 7
+      (refused_if (first_too_short || second_too_short) 8
+      (Ok (same_points K (front K T first) (front K U second))))
 
   -- the cells are filled for the first sheet, and then, unless its points were too short, for the second
   abbrev pub bargains_cells : List (Cell C)
-  bargains_cells = cond few_for_both cells (cond short_mine (filled K T book cells) (filled K U other (filled K T book cells)))
+  bargains_cells =
+      cond few_for_either cells
+      (cond first_too_short (filled K T first cells)
+      (filled K U second (filled K T first cells)))
 
   -- each front is written where it fits; the second only if the first did
-  abbrev pub bargains_mine : List (Point C)
-  bargains_mine = cond (few_for_both || short_mine) mine (front K T book ++ drop (length (front K T book)) mine)
+  abbrev pub bargains_first_points : List (Point C)
+  bargains_first_points =
+      cond (few_for_either || first_too_short) first_points
+      (front K T first ++ drop (length (front K T first)) first_points)
 
-  abbrev pub bargains_yours : List (Point C)
-  bargains_yours = cond (few_for_both || (short_mine || short_yours)) yours (front K U other ++ drop (length (front K U other)) yours)
-
--- the statement for two tariffs: for every two histories of calls and memory enough, equal fronts, matched assignments and
--- same answers under every limit come to one
-abbrev pub BargainsAgree : {C : Type 0} → Kind C → Meaning C → Meaning C → Type 0
-BargainsAgree {C} K T U =
-    (calls others : List Call) (mine yours : Memory C)
-    → Enough K T (book_after calls) mine → Enough K U (book_after others) yours
-    → SameBargains K T (book_after calls) mine U (book_after others) yours
-
--- a verdict on two books: equal exactly when each assignment of either has one of the other that is no longer and no
--- dearer, and exactly when every budget and every deadline is answered alike
-pub record Verdict {C : Type 0} (K : Kind C) (T : Meaning C) (book : Book) (U : Meaning C) (other : Book) (equal : Bool) : Type 0 where
-  pub by_assignments : (equal ≡ true) ↔ (Matched K T book U other × Matched K U other T book)
-  pub by_limits : (mine yours : Memory C) → Enough K T book mine → Enough K U other yours → (equal ≡ true) ↔ SameAnswers K T book mine U other yours
-
--- the verdict of a call on two sheets
-abbrev pub VerdictHolds : {C : Type 0} → Kind C → Meaning C → Sheet → Meaning C → Sheet → Result Bool QuestionRefusal → Type 0
-VerdictHolds K T sheet U other (Ok equal) = Verdict K T (book sheet) U (book other) equal
-VerdictHolds K T sheet U other (Err refusal) = Unit {0}
+  abbrev pub bargains_second_points : List (Point C)
+  bargains_second_points =
+      cond (few_for_either || (first_too_short || second_too_short)) second_points
+      (front K U second ++ drop (length (front K U second)) second_points)

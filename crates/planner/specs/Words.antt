@@ -1,5 +1,5 @@
 -- What the questions answer, in words
-use Rattle.std.specs.Prelude.{ℕ, ◌≤◌, List, length, take, Ok, Err, Result}
+use Rattle.std.specs.Prelude.{◌≡◌, ℕ, ◌≤◌, List, length, take, Ok, Err, Result}
 use Rattle.costs.specs.Kind.{Kind}
 use Rattle.tariffs.specs.Meaning.{Meaning}
 use Rattle.sheets.specs.Book.{Book}
@@ -17,9 +17,10 @@ module _ {C : Type 0} (K : Kind C) (T : Meaning C) (book : Book) where
   FrontTells points (Ok count) = (count ≤ length points) × IsFront K T (standing book) (take count points)
   FrontTells points (Err refusal) = Unit {0}
 
-  -- the bytes, one for each task number, are the plan of a length and cost
+  -- the bytes, one for each task number, are the plan of a length and cost, and no others are
   abbrev pub HasPlan : Point C → List ℕ → Type 0
   HasPlan p bytes = (length book.tasks ≤ length bytes) × IsPlan K T book p (take (length book.tasks) bytes)
+      × ((others : List ℕ) → IsPlan K T book p others → others ≡ take (length book.tasks) bytes)
 
   -- the best pair within a limit, with its plan; the lowest standing task without a quote; or that every pair is too much
   abbrev pub LimitTells : (IsBest TooMuch : Point C → Type 0) → List ℕ → Result (Point C) QuestionRefusal → Type 0

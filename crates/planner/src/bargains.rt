@@ -1,58 +1,22 @@
 // The question whether two sheets offer the same bargains.
-ghost use Rattle.std.specs.Prelude.{◌≡◌, length};
+ghost use Rattle.std.specs.Prelude.{◌≡◌, IfOk};
 ghost use Rattle.refusals.specs.Answer.{answer_of};
 ghost use Rattle.sheets.specs.Book.{book};
 ghost use Rattle.sheets.specs.History.{KnownFurther};
-ghost use Rattle.planner.specs.Bargain.{same_point, same_points, bargains_answer, bargains_cells, bargains_mine, bargains_yours, BargainsAgree, VerdictHolds};
+ghost use Rattle.model.specs.Bargain.{BargainsAgree, Verdict};
+ghost use Rattle.planner.specs.Bargain.{bargains_answer, bargains_cells};
+ghost use Rattle.planner.specs.Bargain.{bargains_first_points, bargains_second_points};
 ghost use Rattle.planner.specs.Refusal.{question_told};
 
 use crate::QuestionRefusal;
-use crate::fronts::write_front;
-use cells::{MinutesTable, TimedSheet, check_cells};
-use costs::Cost;
+use crate::better::better_bargain;
 use model::{Cell, Point, PricedSheet};
 use sheets::Call;
 use tariffs::Tariff;
 
-fn same_point<C: Cost>(first: &Point<C>, second: &Point<C>) -> bool
-    ensures { result ≡ same_point C.Cost.kind first.now second.now }
-{
-    first.length == second.length
-        && first.cost.at_most(second.cost)
-        && second.cost.at_most(first.cost)
-}
-
-fn same_points<C: Cost>(first: &[Point<C>], second: &[Point<C>]) -> bool
-    ensures { result ≡ same_points C.Cost.kind first.now second.now }
-{
-    first.len() == second.len()
-        && first
-            .iter()
-            .zip(second)
-            .all(|(first, second)| same_point(first, second))
-}
-
-// Asks both fronts, the first sheet's first, and compares them.
-fn compare<T: Tariff, U: Tariff<Cost = T::Cost>>(
-    first: &TimedSheet<T>,
-    second: &TimedSheet<U>,
-    cells: &mut [Cell<T::Cost>],
-    first_points: &mut [Point<T::Cost>],
-    second_points: &mut [Point<T::Cost>],
-) -> Result<bool, QuestionRefusal>
-    ensures answer { answer_of question_told result ≡ bargains_answer T.Cost.Cost.kind (T.Tariff.meaning first.now.priced.tariff.now) (book first.now.priced.sheet.now) (U.Tariff.meaning second.now.priced.tariff.now) (book second.now.priced.sheet.now) cells.old first_points.old second_points.old }
-    ensures cells { cells.new ≡ bargains_cells T.Cost.Cost.kind (T.Tariff.meaning first.now.priced.tariff.now) (book first.now.priced.sheet.now) (U.Tariff.meaning second.now.priced.tariff.now) (book second.now.priced.sheet.now) cells.old first_points.old second_points.old }
-    ensures mine { first_points.new ≡ bargains_mine T.Cost.Cost.kind (T.Tariff.meaning first.now.priced.tariff.now) (book first.now.priced.sheet.now) (U.Tariff.meaning second.now.priced.tariff.now) (book second.now.priced.sheet.now) cells.old first_points.old second_points.old }
-    ensures yours { second_points.new ≡ bargains_yours T.Cost.Cost.kind (T.Tariff.meaning first.now.priced.tariff.now) (book first.now.priced.sheet.now) (U.Tariff.meaning second.now.priced.tariff.now) (book second.now.priced.sheet.now) cells.old first_points.old second_points.old }
-{
-    check_cells(first, cells).and(check_cells(second, cells))?;
-    let first_count = write_front(first, cells, first_points)?;
-    let second_count = write_front(second, cells, second_points)?;
-    Ok(same_points(&first_points[..first_count], &second_points[..second_count]))
-}
-
-// Whether two sheets, each under its tariff, offer the same bargains. Both fronts are written to their points; one memory of
-// cells serves both.
+/// Whether two sheets, each under its tariff, offer the same bargains: whether their fronts are equal (docs/RULES.md, "The
+/// same bargains"). Both fronts are written to their points, the first sheet's first; one memory of cells serves both.
+/// Refused with 7 where the cells are too few for either front, and with 8 where its points are too short for it.
 pub fn same_bargains<T: Tariff, U: Tariff<Cost = T::Cost>>(
     first: &PricedSheet<T>,
     second: &PricedSheet<U>,
@@ -60,17 +24,30 @@ pub fn same_bargains<T: Tariff, U: Tariff<Cost = T::Cost>>(
     first_points: &mut [Point<T::Cost>],
     second_points: &mut [Point<T::Cost>],
 ) -> Result<bool, QuestionRefusal>
-    ensures answer { answer_of question_told result ≡ bargains_answer T.Cost.Cost.kind (T.Tariff.meaning first.now.tariff.now) (book first.now.sheet.now) (U.Tariff.meaning second.now.tariff.now) (book second.now.sheet.now) cells.old first_points.old second_points.old }
-    ensures cells { cells.new ≡ bargains_cells T.Cost.Cost.kind (T.Tariff.meaning first.now.tariff.now) (book first.now.sheet.now) (U.Tariff.meaning second.now.tariff.now) (book second.now.sheet.now) cells.old first_points.old second_points.old }
-    ensures mine { first_points.new ≡ bargains_mine T.Cost.Cost.kind (T.Tariff.meaning first.now.tariff.now) (book first.now.sheet.now) (U.Tariff.meaning second.now.tariff.now) (book second.now.sheet.now) cells.old first_points.old second_points.old }
-    ensures yours { second_points.new ≡ bargains_yours T.Cost.Cost.kind (T.Tariff.meaning first.now.tariff.now) (book first.now.sheet.now) (U.Tariff.meaning second.now.tariff.now) (book second.now.sheet.now) cells.old first_points.old second_points.old }
-    ensures bargains { BargainsAgree T.Cost.Cost.kind (T.Tariff.meaning first.now.tariff.now) (U.Tariff.meaning second.now.tariff.now) }
-    ensures verdict { VerdictHolds T.Cost.Cost.kind (T.Tariff.meaning first.now.tariff.now) first.now.sheet.now (U.Tariff.meaning second.now.tariff.now) second.now.sheet.now result }
-    ensures known { (KnownFurther first.now.sheet.now Call.Front first.now.sheet.now) × (KnownFurther second.now.sheet.now Call.Front second.now.sheet.now) }
+    ensures answer { answer_of question_told result ≡ bargains_answer T.Cost.Cost.kind
+        (T.Tariff.meaning first.now.tariff.now) (book first.now.sheet.now)
+        (U.Tariff.meaning second.now.tariff.now) (book second.now.sheet.now)
+        cells.old first_points.old second_points.old }
+    ensures cells { cells.new ≡ bargains_cells T.Cost.Cost.kind
+        (T.Tariff.meaning first.now.tariff.now) (book first.now.sheet.now)
+        (U.Tariff.meaning second.now.tariff.now) (book second.now.sheet.now)
+        cells.old first_points.old second_points.old }
+    ensures first_points { first_points.new ≡ bargains_first_points T.Cost.Cost.kind
+        (T.Tariff.meaning first.now.tariff.now) (book first.now.sheet.now)
+        (U.Tariff.meaning second.now.tariff.now) (book second.now.sheet.now)
+        cells.old first_points.old second_points.old }
+    ensures second_points { second_points.new ≡ bargains_second_points T.Cost.Cost.kind
+        (T.Tariff.meaning first.now.tariff.now) (book first.now.sheet.now)
+        (U.Tariff.meaning second.now.tariff.now) (book second.now.sheet.now)
+        cells.old first_points.old second_points.old }
+    ensures bargains { BargainsAgree T.Cost.Cost.kind
+        (T.Tariff.meaning first.now.tariff.now) (U.Tariff.meaning second.now.tariff.now) }
+    ensures verdict { IfOk result (Verdict T.Cost.Cost.kind
+        (T.Tariff.meaning first.now.tariff.now) (book first.now.sheet.now)
+        (U.Tariff.meaning second.now.tariff.now) (book second.now.sheet.now)) }
+    ensures known { (KnownFurther first.now.sheet.now Call.Front first.now.sheet.now)
+        × (KnownFurther second.now.sheet.now Call.Front second.now.sheet.now) }
 {
-    let mut first_table = MinutesTable::new();
-    let mut second_table = MinutesTable::new();
-    let first = TimedSheet::of(first, &mut first_table);
-    let second = TimedSheet::of(second, &mut second_table);
-    compare(&first, &second, cells, first_points, second_points)
+    let better = better_bargain(first, second, cells, first_points, second_points)?;
+    Ok(better.is_none())
 }

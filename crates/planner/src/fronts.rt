@@ -4,6 +4,7 @@ ghost use Rattle.refusals.specs.Answer.{answer_of};
 ghost use Rattle.sheets.specs.Book.{book};
 ghost use Rattle.sheets.specs.History.{KnownFurther};
 ghost use Rattle.model.specs.Question.{front_answer, front_cells, front_points};
+ghost use Rattle.planner.specs.OffTheFront.{FrontBelow, FrontEmpty};
 ghost use Rattle.planner.specs.Refusal.{question_told};
 ghost use Rattle.planner.specs.Words.{FrontTells};
 
@@ -46,6 +47,10 @@ pub fn front<T: Tariff>(
     ensures cells { cells.new ≡ front_cells T.Cost.Cost.kind (T.Tariff.meaning priced.now.tariff.now) (book priced.now.sheet.now) cells.old }
     ensures points { points.new ≡ front_points T.Cost.Cost.kind (T.Tariff.meaning priced.now.tariff.now) (book priced.now.sheet.now) cells.old points.old }
     ensures words { FrontTells T.Cost.Cost.kind (T.Tariff.meaning priced.now.tariff.now) (book priced.now.sheet.now) points.new result }
+    ensures below { let meaning = T.Tariff.meaning priced.now.tariff.now in
+        FrontBelow T.Cost.Cost.kind meaning (book priced.now.sheet.now) points.new result }
+    ensures empty { let meaning = T.Tariff.meaning priced.now.tariff.now in
+        FrontEmpty T.Cost.Cost.kind meaning (book priced.now.sheet.now) result }
     ensures known { KnownFurther priced.now.sheet.now Call.Front priced.now.sheet.now }
 {
     let mut table = MinutesTable::new();

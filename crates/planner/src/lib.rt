@@ -2,14 +2,17 @@
 #![tactic(auto)]
 
 mod bargains;
+mod better;
 mod fronts;
 mod limit;
 mod limits;
+mod plain;
 mod plan;
 mod refusal;
 mod scan;
 
 pub use bargains::same_bargains;
+pub use better::better_bargain;
 pub use fronts::front;
 pub use limits::{budget, deadline};
 pub use refusal::QuestionRefusal;

@@ -4,11 +4,12 @@ ghost use Rattle.refusals.specs.Answer.{answer_of};
 ghost use Rattle.sheets.specs.Book.{book};
 ghost use Rattle.sheets.specs.History.{KnownFurther};
 ghost use Rattle.model.specs.Limit.{unquoted, lowest_unquoted};
-ghost use Rattle.model.specs.Plan.{SharedOut};
 ghost use Rattle.model.specs.Question.{limit_answer, limit_cells, limit_bytes, budget_answer, budget_bytes, deadline_answer, deadline_bytes};
 ghost use Rattle.model.specs.Scan.{first_below};
 ghost use Rattle.cells.specs.Minutes.{task_at};
+ghost use Rattle.planner.specs.Equations.{BudgetEquation, BudgetEquationAtOnce, DeadlineEquation};
 ghost use Rattle.planner.specs.Limit.{result_of, limit_check, row_within};
+ghost use Rattle.planner.specs.OffTheFront.{BudgetOffTheFront, DeadlineOffTheFront};
 ghost use Rattle.planner.specs.Refusal.{question_told};
 ghost use Rattle.planner.specs.Row.{first_row};
 ghost use Rattle.planner.specs.Words.{BudgetTells, DeadlineTells};
@@ -121,7 +122,14 @@ pub fn budget<T: Tariff>(
     ensures cells { cells.new ≡ limit_cells T.Cost.Cost.kind (T.Tariff.meaning priced.now.tariff.now) (book priced.now.sheet.now) cells.old bytes.old }
     ensures bytes { bytes.new ≡ budget_bytes T.Cost.Cost.kind (T.Tariff.meaning priced.now.tariff.now) (book priced.now.sheet.now) limit cells.old bytes.old }
     ensures words { BudgetTells T.Cost.Cost.kind (T.Tariff.meaning priced.now.tariff.now) (book priced.now.sheet.now) limit bytes.new result }
-    ensures shared_out { SharedOut T.Cost.Cost.kind (T.Tariff.meaning priced.now.tariff.now) (book priced.now.sheet.now) }
+    ensures off_the_front { let meaning = T.Tariff.meaning priced.now.tariff.now in
+        BudgetOffTheFront T.Cost.Cost.kind meaning (book priced.now.sheet.now) limit result }
+    ensures equation { let K = T.Cost.Cost.kind in
+        let M = T.Tariff.meaning priced.now.tariff.now in
+        BudgetEquation K M (book priced.now.sheet.now) limit result }
+    ensures at_once { let K = T.Cost.Cost.kind in
+        let M = T.Tariff.meaning priced.now.tariff.now in
+        BudgetEquationAtOnce K M (book priced.now.sheet.now) limit result }
     ensures known { KnownFurther priced.now.sheet.now Call.Budget priced.now.sheet.now }
 {
     let mut table = MinutesTable::new();
@@ -141,7 +149,11 @@ pub fn deadline<T: Tariff>(
     ensures cells { cells.new ≡ limit_cells T.Cost.Cost.kind (T.Tariff.meaning priced.now.tariff.now) (book priced.now.sheet.now) cells.old bytes.old }
     ensures bytes { bytes.new ≡ deadline_bytes T.Cost.Cost.kind (T.Tariff.meaning priced.now.tariff.now) (book priced.now.sheet.now) limit cells.old bytes.old }
     ensures words { DeadlineTells T.Cost.Cost.kind (T.Tariff.meaning priced.now.tariff.now) (book priced.now.sheet.now) limit bytes.new result }
-    ensures shared_out { SharedOut T.Cost.Cost.kind (T.Tariff.meaning priced.now.tariff.now) (book priced.now.sheet.now) }
+    ensures off_the_front { let meaning = T.Tariff.meaning priced.now.tariff.now in
+        DeadlineOffTheFront T.Cost.Cost.kind meaning (book priced.now.sheet.now) limit result }
+    ensures equation { let K = T.Cost.Cost.kind in
+        let M = T.Tariff.meaning priced.now.tariff.now in
+        DeadlineEquation K M (book priced.now.sheet.now) limit result }
     ensures known { KnownFurther priced.now.sheet.now Call.Deadline priced.now.sheet.now }
 {
     let mut table = MinutesTable::new();

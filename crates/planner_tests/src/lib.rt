@@ -4,6 +4,8 @@
 #[cfg(test)]
 mod bargains;
 #[cfg(test)]
+mod better;
+#[cfg(test)]
 mod fronts;
 #[cfg(test)]
 mod grades;

@@ -1,8 +1,12 @@
-// Refusals: what a refused call tells its caller, alike in every crate.
+// Refusals: what a refused call tells its caller, alike in every crate; and what `==` and `clone` look at.
 #![tactic(auto)]
 
 ghost use Rattle.std.specs.Prelude.{◌≡◌};
 ghost use Rattle.refusals.specs.Answer.{Refused};
+
+mod plain;
+
+pub use plain::{PlainClone, PlainEq, duplicate, is_same};
 
 // A reason for which a call is refused.
 //

@@ -4,6 +4,7 @@
 mod book;
 mod call;
 mod history;
+mod plain;
 mod reading;
 mod refusal;
 mod sheet;

@@ -1,4 +1,3 @@
-pub mod SameLine
 pub mod Cards
 pub mod Firsts
 pub mod Tables

@@ -9,3 +9,4 @@ pub mod Rows
 pub mod Table
 pub mod Ranges
 pub mod Never
+pub mod Same

@@ -5,6 +5,7 @@ mod card;
 mod charge;
 mod line;
 mod never;
+mod plain;
 mod quote;
 mod refusal;
 mod row;

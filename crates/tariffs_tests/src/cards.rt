@@ -13,8 +13,11 @@ fn quote(minutes: u32, cents: u64) -> Option<Quote<Cents>> {
 #[test]
 fn seven_minutes_at_a_hundred_cents_cost_twelve(rt: HostRuntime) {
     assert_eq!(rt; charge_for(100, 7).amount(), 12);
-    let minute_rounded_first = 100u64.div_ceil(60) * 7;
-    assert_eq!(rt; minute_rounded_first, 14);
+    // a single minute is rounded up too, so that seven of them by themselves cost 14
+    assert_eq!(rt; charge_for(100, 1).amount(), 2);
+    let mut card = RateCard::new();
+    assert_eq!(rt; card.add(10, 100), Ok(0));
+    assert_eq!(rt; card.quote(0, 70), quote(7, 12));
 }
 
 #[test]

@@ -19,10 +19,10 @@ fits_in most text memory (Err refusal) e short room = by (ltb (length memory) (l
     by false h e' = cc
 
 -- how long the line of a refusal is
-three_digits : (n : ℕ) → n < 256 → length (decimal n) ≤ 3
+pub three_digits : (n : ℕ) → n < 256 → length (decimal n) ≤ 3
 three_digits n small = length-decimal-le 3 n (omega arith) (omega arith) (omega arith)
 
-twenty_digits : (n : ℕ) → n < 2 ^ 64 → length (decimal n) ≤ 20
+pub twenty_digits : (n : ℕ) → n < 2 ^ 64 → length (decimal n) ≤ 20
 twenty_digits n small = length-decimal-le 20 n (omega arith) (omega arith) small
 
 pub bare_length : (number : ℕ) → number < 256 → length (line (refusal_words (plain number))) ≤ 33

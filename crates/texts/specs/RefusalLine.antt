@@ -4,6 +4,10 @@ use Rattle.refusals.specs.Answer.{Refused}
 use Rattle.texts.specs.declared.word.Word.{Word}
 use Rattle.texts.specs.declared.word.Word.TheVariants as word
 
--- `refused`, its number, and the value that it carries, if any
+-- a refusal's number, and the value that it carries, if any
+abbrev pub number_words : Refused → List Word
+number_words r = word.Number r.number ∷ elim r.carried [ Some value ↦ word.Number value ∷ [] | None ↦ [] ]
+
+-- `refused` before them
 abbrev pub refusal_words : Refused → List Word
-refusal_words r = word.Refused ∷ (word.Number r.number ∷ elim r.carried [ Some value ↦ word.Number value ∷ [] | None ↦ [] ])
+refusal_words r = word.Refused ∷ number_words r

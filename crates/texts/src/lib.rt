@@ -4,6 +4,7 @@
 mod digits;
 mod line;
 mod number;
+mod plain;
 mod refusal_line;
 mod too_short;
 mod word;

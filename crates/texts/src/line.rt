@@ -27,6 +27,9 @@ fn word_len(word: Word) -> usize
         Word::Number(n) => number_len(n),
         Word::NoQuote => b"none".len(),
         Word::Refused => b"refused".len(),
+        Word::Same => b"same".len(),
+        Word::First => b"first".len(),
+        Word::Second => b"second".len(),
     }
 }
 
@@ -39,6 +42,9 @@ fn put_word(memory: &mut [u8], at: usize, word: Word) -> usize
         Word::Number(n) => put_digits(memory, at, n),
         Word::NoQuote => put_text(memory, at, b"none"),
         Word::Refused => put_text(memory, at, b"refused"),
+        Word::Same => put_text(memory, at, b"same"),
+        Word::First => put_text(memory, at, b"first"),
+        Word::Second => put_text(memory, at, b"second"),
     }
 }
 

@@ -8,4 +8,10 @@ pub enum Word {
     NoQuote,
     // `refused`
     Refused,
+    /// `same`: two sheets offer the same bargains
+    Same,
+    /// `first`: the first of two sheets
+    First,
+    /// `second`: the second of two sheets
+    Second,
 }

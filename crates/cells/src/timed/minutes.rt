@@ -1,8 +1,8 @@
 // The minutes that machines quote for tasks.
-ghost use Rattle.std.specs.Prelude.{◌≡◌, ℕ, slice_index_or};
+ghost use Rattle.std.specs.Prelude.{◌≡◌, ℕ, drop, length, slice_index_or};
 ghost use Rattle.sheets.specs.Book.{book};
 ghost use Rattle.model.specs.Assignment.{quote_of, minutes_of};
-ghost use Rattle.cells.specs.Minutes.{no_minutes, task_at};
+ghost use Rattle.cells.specs.Minutes.{no_minutes, task_at, HoldsMinutes};
 
 use crate::{MinutesTable, TimedSheet, quote_of};
 use costs::Cost;
@@ -40,9 +40,14 @@ impl MinutesTable {
 }
 
 impl<'a, 'b, T: Tariff> TimedSheet<'a, 'b, T> {
-    // Asks the tariff for the minutes of all tasks, and keeps them in the table while it is lent.
+    // Asks the tariff for the minutes of all tasks, and keeps them in the table while it is lent. Rows past the tasks stay
+    // as they were.
     pub fn of(priced: &PricedSheet<'a, T>, table: &'b mut MinutesTable) -> TimedSheet<'a, 'b, T>
-        ensures { result.priced ≡ priced.now }
+        ensures priced { result.priced ≡ priced.now }
+        ensures minutes { let tasks = (book priced.now.sheet.now).tasks in
+            HoldsMinutes (T.Tariff.meaning priced.now.tariff.now) tasks result.table.now.rows }
+        ensures behind { let count = length (book priced.now.sheet.now).tasks in
+            drop count result.table.now.rows ≡ drop count table.old.rows }
     {
         for (number, task) in priced.sheet.tasks().iter().enumerate() {
             table.rows[number] = ask_minutes(priced.tariff, task);

@@ -43,9 +43,8 @@ impl<'a> Reader<'a> {
         ensures spellings_read { SpellingsAreRead }
         ensures only_spellings_read { OnlySpellingsAreRead }
     {
-        let (n, rest) = take_groups(self.rest, MORE_BYTES).map_err(|fault| fault.at(self.place))?;
-        let place = self.place + (self.rest.len() - rest.len());
-        *self = Reader { rest, place };
+        let (n, behind) = take_groups(*self, MORE_BYTES).map_err(|fault| fault.at(self.place))?;
+        *self = behind;
         Ok(n)
     }
 }

@@ -1,7 +1,7 @@
 use Rattle.std.proofs.Common.{◌≡◌, ℕ, Bool, true, false, eqb, sym, refl, ap, ◌∙◌, subst, rules}
 use mir.Val.{bool_byte}
 use Rattle.costs.specs.Cents.{cents_kind}
-use Rattle.planner.specs.Bargain.{Verdict}
+use Rattle.model.specs.Bargain.{Verdict}
 use Rattle.keyanswer.specs.Compare.{offered}
 use Rattle.capi.proofs.bargains.vulzhedor_same_bargains.Goals as goal
 
@@ -18,7 +18,7 @@ returns-in-Ok c =
       verdict = search rules;
       input = search rules;
       value = search rules;
-      judged = λ _ mine yours first second.
-          subst (λ (equal : Bool). Verdict cents_kind (offered mine) mine.book (offered yours) yours.book equal)
-          (sym told) (c.in-Ok.ensures.judged mine yours first second);
+      judged = λ _ first second first_spelled second_spelled.
+          subst (λ (equal : Bool). Verdict cents_kind (offered first) first.book (offered second) second.book equal)
+          (sym told) (c.in-Ok.ensures.judged first second first_spelled second_spelled);
     }

@@ -1,14 +1,12 @@
 use Rattle.std.proofs.Common.{◌≡◌, ◌+◌, List, get_or, Ok, sym, ◌∙◌, subst, arith, rules}
 use Rattle.std.specs.Result.{MatchResult}
 use Rattle.std.proofs.lemmas.Result.{MatchResult-weaker, err_from_is_err_and}
-use Rattle.refusals.specs.Answer.{carrying}
 use Rattle.tariffs.specs.declared.line.Line.{Line}
 use Rattle.tariffs.specs.Card.{lines_of}
-use Rattle.tariffs.specs.Refusal.{card_told}
 use Rattle.tariffs.proofs.Cards.{obeyed_from_ok, lines_added}
 use Rattle.hire.specs.declared.terms.Terms.{Terms}
 use Rattle.hire.specs.Refusal.{hire_told}
-use Rattle.hire.specs.Hire.{speed_argument}
+use Rattle.hire.specs.Hire.{told_at}
 use Rattle.hire.proofs.Reading.{Reading, reading_told, reading_more, reading_all}
 use Rattle.hire.proofs.hire.read_card.Goals as goal
 
@@ -19,7 +17,7 @@ pub returns-in_err-map_err : goal.returns-in_err-map_err
 returns-in_err-map_err c =
     let i = c.loop-machine.machine-counter in
     let told = c.in_err-map_err.field-0.0 in
-    let which : MatchResult c.add.result (λ machine. ⊥) (λ refusal. hire_told told ≡ carrying (card_told refusal).number (speed_argument i)) =
+    let which : MatchResult c.add.result (λ machine. ⊥) (λ refusal. hire_told told ≡ told_at refusal i (get_or c.args.terms.now i no_terms)) =
     MatchResult-weaker c.add.result c.map_err.ensures.cases (λ machine e. grind (arith)) (λ refusal h. search rules) in
     let exit = err_from_is_err_and c.from_residual.result c.from_residual.ensures.1 in
     rw (exit.1, exit.2) (reading_told c.args.terms.now (lines_of c.loop-machine.card) i no_terms c.loop-machine.invariant c.loop-machine-test.true c.add.result told c.add.ensures.answer which)

@@ -11,7 +11,7 @@ use Rattle.model.specs.Limit.{budget_result, deadline_result}
 use Rattle.model.specs.Question.{budget_answer, budget_bytes}
 use Rattle.planner.specs.declared.refusal.QuestionRefusal.{QuestionRefusal}
 use Rattle.planner.specs.Refusal.{question_told}
-use Rattle.keyanswer.specs.Answer.{answer_lines, limit_text, text_of}
+use Rattle.keyanswer.specs.Answer.{text_bytes, answer_lines, limit_text, text_of}
 use Rattle.texts.proofs.Fitting.{fits_in}
 use Rattle.keyinput.specs.declared.question.Question.TheVariants.{Front}
 use Rattle.keyanswer.proofs.Lengths.{answer_length}
@@ -49,10 +49,10 @@ returns c =
     let answer = c.write_limit.ensures.answer ∙ ap (λ text. write_answer text c.args.text.now) same in
     record {
       text = record { answer = answer; after = c.write_limit.ensures.after ∙ ap (λ text. write_after text c.args.text.now) same };
-      fits = fits_in 98304 (text_of (answer_lines T asked c.args.question)) c.args.text.now c.write_limit.result answer (answer_length c.args.priced.now.tariff.now c.args.priced.now.sheet.now c.args.question);
+      fits = fits_in text_bytes (text_of (answer_lines T asked c.args.question)) c.args.text.now c.write_limit.result answer (answer_length c.args.priced.now.tariff.now c.args.priced.now.sheet.now c.args.question);
     }
 
 pub returns-in-Front-clause-fits : goal.returns-in-Front-clause-fits
 returns-in-Front-clause-fits c =
     let T = lines_meaning (lines_of c.args.priced.now.tariff.now) in
-    fits_in 98304 (text_of (answer_lines T (book c.args.priced.now.sheet.now) Front)) c.args.text.now c.answer_front.result c.answer_front.ensures.answer (answer_length c.args.priced.now.tariff.now c.args.priced.now.sheet.now Front)
+    fits_in text_bytes (text_of (answer_lines T (book c.args.priced.now.sheet.now) Front)) c.args.text.now c.answer_front.result c.answer_front.ensures.answer (answer_length c.args.priced.now.tariff.now c.args.priced.now.sheet.now Front)

@@ -1,5 +1,5 @@
 use Rattle.model.proofs.theorems.limits_are_shared_out.Goals as goal
-use Rattle.model.proofs.Plans.{limits_are_shared_out}
+use Rattle.model.proofs.Equations.{limits_are_shared_out}
 
 pub returns : goal.returns
 returns g c = limits_are_shared_out c.laws_hold.ensures

@@ -1,23 +1,35 @@
-use Rattle.std.proofs.Common.{refl, sym}
-use Rattle.sheets.specs.declared.call.Call.TheVariants.{Front}
-use Rattle.sheets.proofs.Histories.{known_further}
+use Rattle.std.proofs.Common.{Ok}
+use Rattle.sheets.specs.Book.{book}
 use Rattle.cells.proofs.Laws.{laws_of}
-use Rattle.planner.proofs.Verdicts.{bargains_agree, verdict_holds}
+use Rattle.model.proofs.Bargains.{equal_fronts_mean_same_bargains}
+use Rattle.planner.proofs.Verdicts.{verdict_holds}
+use Rattle.planner.proofs.BetterTold.{same_told}
 use Rattle.planner.proofs.bargains.same_bargains.Goals as goal
 
 pub returns : goal.returns
 returns g c =
-    let T = g.T.Tariff.meaning c.of-first.result.priced.tariff.now in
-    let U = g.U.Tariff.meaning c.of-second.result.priced.tariff.now in
-    let F = g.T.Tariff.ranged c.of-first.result.priced.tariff.now in
-    let G = g.U.Tariff.ranged c.of-second.result.priced.tariff.now in
+    let K = g.T.Cost.Cost.kind in
+    let T = g.T.Tariff.meaning c.args.first.now.tariff.now in
+    let U = g.U.Tariff.meaning c.args.second.now.tariff.now in
+    let F = g.T.Tariff.ranged c.args.first.now.tariff.now in
+    let G = g.U.Tariff.ranged c.args.second.now.tariff.now in
     let laws = laws_of g.met.T.Cost.Cost in
-    rw (sym c.of-first.ensures, sym c.of-second.ensures) (record {
-      answer = c.compare.ensures.answer;
-      cells = c.compare.ensures.cells;
-      mine = c.compare.ensures.mine;
-      yours = c.compare.ensures.yours;
-      bargains = bargains_agree laws T U F G;
-      verdict = verdict_holds laws T U F G c.of-first.result.priced.sheet.now c.of-second.result.priced.sheet.now c.args.cells.now c.args.first_points.now c.args.second_points.now c.compare.result c.compare.ensures.answer;
-      known = (known_further _ Front _ refl, known_further _ Front _ refl);
-    })
+    let cells = c.args.cells.now in
+    let first_points = c.args.first_points.now in
+    let second_points = c.args.second_points.now in
+    let answer = same_told laws T U F G (book c.args.first.now.sheet.now) (book c.args.second.now.sheet.now) cells first_points second_points c.in_ok-better.better c.is_none.result c.is_none.ensures c.in_ok-better.ensures.answer in
+    record {
+      answer = answer;
+      cells = c.in_ok-better.ensures.cells;
+      first_points = c.in_ok-better.ensures.first_points;
+      second_points = c.in_ok-better.ensures.second_points;
+      bargains = equal_fronts_mean_same_bargains laws T U F G;
+      verdict = verdict_holds laws T U F G c.args.first.now.sheet.now c.args.second.now.sheet.now cells first_points second_points (Ok c.is_none.result) answer;
+      known = c.in_ok-better.ensures.known;
+    }
+
+pub returns-in_err-better-clause-bargains : goal.returns-in_err-better-clause-bargains
+returns-in_err-better-clause-bargains g c =
+    let T = c.args.first.now.tariff.now in
+    let U = c.args.second.now.tariff.now in
+    equal_fronts_mean_same_bargains (laws_of g.met.T.Cost.Cost) (g.T.Tariff.meaning T) (g.U.Tariff.meaning U) (g.T.Tariff.ranged T) (g.U.Tariff.ranged U)

@@ -1,9 +1,8 @@
-use Rattle.std.proofs.Common.{◌≡◌, ℕ, ◌<◌, ◌++◌, Err, sym, refl, ap, rules}
+use Rattle.std.proofs.Common.{◌≡◌, ℕ, Err, sym, ap, rules}
 use Rattle.numbers.specs.Input.{Reading, value_of, left_by}
-use Rattle.numbers.specs.Number.{groups, limit}
 use Rattle.numbers.specs.Reader.{input_of}
 use Rattle.numbers.specs.declared.groups.Fault.{Fault}
-use Rattle.numbers.specs.Fault.{Faulty, refusal_at}
+use Rattle.numbers.specs.Fault.{Taken, Faulty, refusal_at}
 use Rattle.numbers.proofs.OnSpellings.{number_read, number_refused, one_spelling, spellings_are_read, only_spellings_are_read}
 use Rattle.numbers.proofs.reader.Reader.number.Goals as goal
 
@@ -28,8 +27,9 @@ returns-in_err-n c =
 pub returns : goal.returns
 returns c =
     let before = input_of c.args.self.now in
-    let found : (c.in_ok-n.n < limit 4) × (before.bytes ≡ groups 4 c.in_ok-n.n ++ c.in_ok-n.rest.now) = search rules in
-    let read = number_read before c.in_ok-n.n _ c.in_ok-n.rest.now found.0 found.1 refl in
+    let left = input_of c.in_ok-n.behind in
+    let taken : Taken 4 before c.in_ok-n.n left = search rules in
+    let read = number_read before c.in_ok-n.n left taken in
     record {
       answer = sym (ap value_of read.0);
       after = sym (ap (λ (r : Reading ℕ). left_by r before) read.0);

@@ -3,7 +3,7 @@ use Rattle.std.proofs.lemmas.Bool.{cond-true}
 use Rattle.std.proofs.lemmas.Bool.Decides.{nat_tests}
 use Rattle.tariffs.specs.Line.{line, line_in_range}
 use Rattle.tariffs.proofs.RoundedUps.{times_are_least}
-use Rattle.tariffs.proofs.SameLine.{same_line}
+use Rattle.tariffs.specs.Same.{same_line}
 use Rattle.tariffs.proofs.line.Line.new.Goals as goal
 
 pub returns : goal.returns

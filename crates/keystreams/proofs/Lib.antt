@@ -1,0 +1,2 @@
+pub mod OnStreams
+pub mod OnVerdicts
