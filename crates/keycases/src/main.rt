@@ -33,7 +33,7 @@ const NAMES: [&str; 24] = [
 
 fn print_answer(rt: &HostRuntime, name: &str) -> anyhow::Result<()> {
     println!(rt; "{name}:")?;
-    write_answer(rt.alloc(), fs::open(rt, name)?, &mut rt.stdout())?;
+    write_answer(fs::open(rt, name)?, &mut rt.stdout())?;
     Ok(())
 }
 
