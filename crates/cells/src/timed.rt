@@ -17,8 +17,8 @@ pub struct MinutesTable {
     ghost whole: { length rows ≡ max_tasks },
 }
 
-// A sheet and its tariff, with the minutes that each machine quotes for each standing task. The tariff is asked for them once;
-// afterwards it is asked only what those machines cost that are quick enough.
+// A sheet and its tariff, with the minutes that each machine quotes for each standing task. The tariff is asked for them
+// once; afterwards it is asked only what those machines cost that are quick enough.
 #[derive(Drop)]
 pub struct TimedSheet<'a, 'b, T: Tariff> {
     pub priced: PricedSheet<'a, T>,
