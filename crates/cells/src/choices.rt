@@ -19,13 +19,16 @@ fn choice_within<T: Tariff>(
 ) -> Option<Choice<T::Cost>>
     ensures { result ≡ choice_within allowance machine (quote_of (T.Tariff.meaning timed.now.priced.tariff.now) (task_at (book timed.now.priced.sheet.now).tasks number) machine) }
 {
-    let minutes = timed.minutes(number, machine);
-    if minutes == 0 || minutes > allowance {
-        return None;
-    }
     let task = timed.priced.sheet.tasks().get(number)?;
+    // Of a standing task only those machines are asked what they cost whose kept minutes are few enough.
+    if !task.struck {
+        let minutes = timed.minutes(number, machine);
+        if minutes == 0 || minutes > allowance {
+            return None;
+        }
+    }
     let quote = quote_of(timed.priced.tariff, task, machine)?;
-    Some(Choice {
+    (quote.minutes <= allowance).then_some(Choice {
         machine,
         cost: quote.cost,
     })

@@ -1,4 +1,4 @@
-// A sheet under a tariff, with the time of each task on each machine.
+// A sheet under a tariff, with the time of each standing task on each machine.
 ghost use Rattle.std.specs.Prelude.{◌≡◌, length};
 ghost use Rattle.sheets.specs.Book.{book};
 ghost use Rattle.sheets.specs.Tasks.{max_tasks};
@@ -10,15 +10,15 @@ use tariffs::{MAX_MACHINES, Tariff};
 
 pub mod minutes;
 
-// Memory for the minutes that each machine quotes for each task, 0 without a quote.
+// Memory for the minutes that each machine quotes for each standing task, 0 without a quote.
 #[derive(Drop)]
 pub struct MinutesTable {
     rows: [[u16; MAX_MACHINES]; MAX_TASKS],
     ghost whole: { length rows ≡ max_tasks },
 }
 
-// A sheet and its tariff, with the minutes that each machine quotes for each task. The tariff is asked for them once;
-// afterwards it is asked only what those machines cost that are quick enough.
+// A sheet and its tariff, with the minutes that each machine quotes for each standing task. The tariff is asked for them
+// once; afterwards it is asked only what those machines cost that are quick enough.
 #[derive(Drop)]
 pub struct TimedSheet<'a, 'b, T: Tariff> {
     pub priced: PricedSheet<'a, T>,

@@ -1,6 +1,5 @@
 -- Memory in which every two sheets can be compared
-use Rattle.std.proofs.Common.{◌≡◌, ℕ, zero, suc, ◌+◌, ◌*◌, ◌≤◌, Bool, true, false, cond, ◌||◌, List, [], ◌∷◌, length, Some, None, Ok, Option, sym, ap, ◌∙◌, subst, ap₂, arith, length-append}
-use Rattle.std.proofs.Math.Nat.{mul-le-mul}
+use Rattle.std.proofs.Common.{◌≡◌, ℕ, ◌≤◌, Bool, false, ◌||◌, List, length, Ok, sym, ap, ◌∙◌, subst, ap₂, arith}
 use Rattle.std.proofs.lemmas.Bool.{le-ltb}
 use Rattle.refusals.specs.Answer.{Answer, refused_if}
 use Rattle.costs.specs.Kind.{Kind, Laws}
@@ -12,13 +11,13 @@ use Rattle.tariffs.specs.Card.{lines_of, lines_meaning}
 use Rattle.tariffs.specs.Ranges.{card_ranged}
 use Rattle.sheets.specs.declared.sheet.Sheet.{Sheet}
 use Rattle.sheets.specs.Book.{book}
+use Rattle.sheets.proofs.Histories.{sheet_sound}
 use Rattle.model.specs.declared.cell.Cell.{Cell}
 use Rattle.model.specs.declared.point.Point.{Point}
 use Rattle.model.specs.Assignment.{standing}
 use Rattle.model.specs.Cell.{width, cells_needed, least_cost}
 use Rattle.model.specs.Front.{front}
-use Rattle.model.specs.Scan.{drops, point, point_at, drops_below}
-use Rattle.model.proofs.Loops.{span_bound, stage_count}
+use Rattle.model.proofs.Loops.{width_bound, cells_needed_bound, drops_count}
 use Rattle.model.proofs.Scans.{front_is_where_costs_drop}
 use Rattle.keyinput.specs.declared.batch.Batch.{Batch}
 use Rattle.numbers.specs.Input.{value_of}
@@ -26,44 +25,16 @@ use Rattle.keyinput.specs.Batch.{batch_of, batch_in}
 use Rattle.keyanswer.specs.Better.{Roomy, better_offer, offers_answered, both_asked, verdict_on, verdict_within}
 use Rattle.keyanswer.specs.Compare.{about_input}
 
-module _ {C : Type 0} (K : Kind C) (costs : ℕ → Option C) where
-  one_or_none : (b : Bool) (p : Point C) → length (cond b (p ∷ []) []) ≤ 1
-  one_or_none true p = omega arith
-  one_or_none false p = omega arith
-
-  point_count : (t : ℕ) (o : Option C) → length (point_at K costs t o) ≤ 1
-  point_count t None = omega arith
-  point_count t (Some cost) = one_or_none (drops K costs t cost) (point t cost)
-
-  drops_count : (n : ℕ) → length (drops_below K costs n) ≤ n
-  drops_count zero = omega arith
-  drops_count (suc n) =
-      let before = drops_count n in
-      let here = point_count n (costs n) in
-      let both = length-append (drops_below K costs n) (point_at K costs n (costs n)) in
-      omega arith
-
 module _ {C : Type 0} {K : Kind C} (laws : Laws K) (T : Meaning C) (ranged : Ranged T) (sheet : Sheet) where
-  width_few : width T (book sheet) ≤ 23041
-  width_few =
-      let span = span_bound T ranged (standing (book sheet)) in
-      let stages = stage_count (book sheet) in
-      let few = sheet.few in
-      omega arith
-
   cells_few : cells_needed T (book sheet) ≤ 391697
-  cells_few =
-      let few = sheet.few in
-      let rows : sheet.stages + 1 ≤ 17 = omega arith in
-      let whole : (sheet.stages + 1) * width T (book sheet) ≤ 17 * 23041 = mul-le-mul rows width_few in
-      omega arith
+  cells_few = cells_needed_bound T ranged (book sheet) (sheet_sound sheet)
 
   -- a front has at most one point for each number of minutes
   points_few : length (front K T (book sheet)) ≤ 23041
   points_few =
       let P : List (Point C) → Type 0 = λ ps. length ps ≤ width T (book sheet) in
       let within = subst P (front_is_where_costs_drop laws T ranged (standing (book sheet))) (drops_count K (least_cost K T (standing (book sheet))) (width T (book sheet))) in
-      omega (arith, within, width_few)
+      omega (arith, within, width_bound T ranged (book sheet) (sheet_sound sheet))
 
 unrefused : {A : Type 0} (few other_few short other_short : Bool) (a : A) → few ≡ false → other_few ≡ false → short ≡ false → other_short ≡ false
     → ◌≡◌ {A = Answer A} (refused_if (few || other_few) 7 (refused_if (short || other_short) 8 (Ok a))) (Ok a)

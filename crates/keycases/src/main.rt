@@ -3,6 +3,7 @@
 
 use keystreams::write_answer;
 use std::fs;
+use std::io::Write;
 
 const NAMES: [&str; 24] = [
     "budget",
@@ -32,8 +33,10 @@ const NAMES: [&str; 24] = [
 ];
 
 fn print_answer(rt: &HostRuntime, name: &str) -> anyhow::Result<()> {
+    let mut text = Vec::new(rt.alloc());
+    write_answer(fs::open(rt, name)?, &mut text)?;
     println!(rt; "{name}:")?;
-    write_answer(rt.alloc(), fs::open(rt, name)?, &mut rt.stdout())?;
+    rt.stdout().write_all(&text)?;
     Ok(())
 }
 

@@ -19,7 +19,7 @@ fn run(rt: &HostRuntime) -> anyhow::Result<()> {
         rt.print(USAGE)?;
         return Ok(());
     }
-    write_answer(rt.alloc(), rt.stdin(), &mut rt.stdout())?;
+    write_answer(rt.stdin(), &mut rt.stdout())?;
     Ok(())
 }
 

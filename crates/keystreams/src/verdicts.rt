@@ -6,7 +6,8 @@ ghost use Rattle.keyanswer.specs.Better.{better_heard, verdict_on, verdict_line,
 use crate::deciding::read_deciding;
 use costs::Cents;
 use keyanswer::{
-    CompareRefusal, MOST_CELLS, MOST_POINTS, VERDICT_BYTES, better_batch, exit_status, verdict_to,
+    CompareRefusal, INPUT_BYTES, MOST_CELLS, MOST_POINTS, VERDICT_BYTES, better_batch, exit_status,
+    verdict_to,
 };
 use model::{Better, Cell, Point};
 use std::alloc::{AllocError, Global};
@@ -55,11 +56,11 @@ fn judge(
 /// exit status that tells it, as `cmp` does (docs/RULES.md, "Program `samebargains`").
 ///
 /// At most 1,024 bytes are read of each, since these decide. It has memory for every two sheets, so refusals 7 and 8 do not
-/// come. Where a reader, the writer or the memory fails, so does it.
+/// come. Where a reader, the writer or the memory for the sheets fails, so does it.
 pub fn write_verdict_on<R: Read + Drop, S: Read + Drop, W: Write>(
     alloc: Global,
-    first: R,
-    second: S,
+    mut first: R,
+    mut second: S,
     writer: &mut W,
 ) -> io::Result<u8>
     ensures line { OnOk result
@@ -72,9 +73,13 @@ pub fn write_verdict_on<R: Read + Drop, S: Read + Drop, W: Write>(
         IfSome (S.remaining second) (λ second_input.
         status ≡ verdict_status (verdict_on first_input second_input)))) }
 {
-    let first_input = read_deciding(alloc, first)?;
-    let second_input = read_deciding(alloc, second)?;
-    let verdict = judge(alloc, &first_input, &second_input)?;
+    let mut first_buffer = [0; INPUT_BYTES];
+    let mut second_buffer = [0; INPUT_BYTES];
+    let first_count = read_deciding(&mut first, &mut first_buffer)?;
+    let second_count = read_deciding(&mut second, &mut second_buffer)?;
+    let first_input = &first_buffer[..first_count];
+    let second_input = &second_buffer[..second_count];
+    let verdict = judge(alloc, first_input, second_input)?;
     let mut text = [0; VERDICT_BYTES];
     let count = verdict_to(&verdict, &mut text);
     writer.write_all(&text[..count])?;

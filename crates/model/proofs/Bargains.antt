@@ -1,6 +1,6 @@
 -- Two sheets with equal fronts offer the same bargains
-use Rattle.std.proofs.Common.{◌≡◌, ℕ, Bool, true, false, ltb, leb, ◌↔◌, ◌⊎◌, List, [], ◌∷◌, ◌++◌, length, take, drop, is_some, Some, None, Ok, Err, filter, Option, sym, refl, ap, ◌∙◌, subst, le_trans, inl, inr}
-use Rattle.std.proofs.lemmas.List.{take_at}
+use Rattle.std.proofs.Common.{◌≡◌, ℕ, ◌≤◌, Bool, true, false, ltb, leb, ◌↔◌, ◌⊎◌, List, [], ◌∷◌, ◌++◌, map, length, take, drop, is_some, Some, None, Ok, Err, filter, Option, sym, refl, ap, ◌∙◌, subst, le_trans, le_refl, inl, inr, arith}
+use Rattle.std.proofs.lemmas.List.{length-map, take_at}
 use Rattle.std.proofs.lemmas.Bool.{both_ways, le-leb, leb-true, le-ltb}
 use Rattle.refusals.specs.Answer.{Answer, Refused, refused_if}
 use Rattle.costs.specs.Kind.{Kind, Laws}
@@ -13,10 +13,10 @@ use Rattle.model.specs.declared.point.Point.{Point}
 use Rattle.model.specs.Lists.{In, here, is_empty, least}
 use Rattle.model.specs.Assignment.{standing, pair_of, pairs}
 use Rattle.model.specs.Front.{no_worse, front}
-use Rattle.model.specs.Cell.{cells_needed}
+use Rattle.model.specs.Cell.{cells_needed, table}
 use Rattle.model.specs.Limit.{shorter_then_cheaper, lowest_unquoted, or_none_within, unless_unquoted, within_budget, within_deadline, budget_result, deadline_result, IsBudget, IsDeadline, LimitsInWords, TooDear, TooLong}
 use Rattle.model.specs.Question.{few_cells, limit_answer}
-use Rattle.model.specs.Bargain.{Agree, LimitMemory, Memory, front_given, LimitGivenInWords, GivenInWords, Matched, EqualFronts, SameBargains, DecidedByBook, EnoughMemoryIsAnswered, EqualFrontsMeanSameBargains}
+use Rattle.model.specs.Bargain.{Agree, LimitMemory, Memory, SomeMemorySuffices, front_given, LimitGivenInWords, GivenInWords, Matched, EqualFronts, SameBargains, DecidedByBook, EnoughMemoryIsAnswered, EqualFrontsMeanSameBargains}
 use Rattle.model.proofs.Lists.{in_kept_by, of_kept_by, not_empty}
 use Rattle.model.proofs.Leasts.{Least, least_is}
 use Rattle.model.proofs.Assignments.{in_pairs, of_pairs}
@@ -24,8 +24,37 @@ use Rattle.model.proofs.Fronts.{Covers, no_worse_from, no_longer, no_dearer, cov
 use Rattle.model.proofs.Limits.{least_of_covers, kept_by_covers, shorter_first, shorter_long, cheaper_first}
 use Rattle.model.proofs.LeastCosts.{at_most_refl}
 use Rattle.model.proofs.Unquoted.{none_unquoted}
+use Rattle.model.proofs.Tables.{laid_out}
 use Rattle.model.proofs.FrontsInWords.{front_in_words}
 use Rattle.model.proofs.LimitsInWords.{none_of, limits_give_best_pairs}
+
+-- memory that holds what is asked of it suffices
+module _ {C : Type 0} (K : Kind C) (T : Meaning C) (book : Book) where
+  cells_there : cells_needed T book ≤ length (table K T book)
+  cells_there = omega (arith, (laid_out K T book).size)
+
+  limit_memory : LimitMemory K T book
+  limit_memory = record {
+    cells = table K T book;
+    bytes = map (λ _. 0) book.tasks;
+    cells_suffice = cells_there;
+    bytes_suffice = omega (arith, length-map {B = ℕ} book.tasks (λ _. 0));
+  }
+
+  memory_there : Memory K T book
+  memory_there = record {
+    for_front = record {
+      cells = table K T book;
+      points = front K T book;
+      cells_suffice = cells_there;
+      points_suffice = le_refl (length (front K T book));
+    };
+    for_budget = λ _. limit_memory;
+    for_deadline = λ _. limit_memory;
+  }
+
+pub some_memory_suffices : {C : Type 0} (K : Kind C) → SomeMemorySuffices K
+some_memory_suffices K T book = memory_there K T book
 
 -- in memory that suffices, what the questions give is what book, tariff and limit decide
 module _ {C : Type 0} (K : Kind C) (T : Meaning C) (book : Book) where

@@ -1,14 +1,15 @@
 -- What the loops over stages, tasks, minutes and cells add to
 use Rattle.std.proofs.Common.{◌≡◌, ℕ, zero, suc, ◌+◌, ◌-◌, ◌*◌, ◌/◌, ◌%◌, ◌<◌, ◌≤◌, min, max, Bool, true, false, cond, ◌||◌, ◌⊎◌, List, [], ◌∷◌, ◌++◌, length, get_or, take, drop, Some, None, filter, Option, sym, refl, ap, ◌∙◌, subst, ap₂, inl, inr, zero-le, le_trans, le_refl, mul_comm, add-one, arith}
-use Rattle.std.proofs.lemmas.Nat.{mul-add-lt, div-mul-add, mod-mul-add}
+use Rattle.std.proofs.lemmas.Nat.{mul-le, mul-add-lt, div-mul-add, mod-mul-add}
 use Rattle.std.proofs.lemmas.List.FromFn.{length-map-range_with_len, get_or-map-range_with_len}
 use Rattle.std.proofs.lemmas.List.Elements.{filter_more}
-use Rattle.std.proofs.lemmas.List.{append-nil, get_or_append_left, drop_more, drop_all, take_more}
+use Rattle.std.proofs.lemmas.List.{append-nil, get_or_append_left, length-append, drop_more, drop_all, take_more}
 use Rattle.std.proofs.lemmas.Bool.{both_ways, cases_lt, le-leb, lt-leb}
 use Rattle.costs.specs.Kind.{Kind, Laws}
 use Rattle.tariffs.specs.Meaning.{Meaning, Ranged}
 use Rattle.tariffs.specs.declared.quote.Quote.{Quote}
 use Rattle.sheets.specs.Book.{Book}
+use Rattle.sheets.specs.History.{Sound}
 use Rattle.sheets.specs.declared.task.Task.{Task}
 use Rattle.model.specs.declared.cell.Cell.{Cell}
 use Rattle.model.specs.declared.point.Point.{Point}
@@ -19,7 +20,7 @@ use Rattle.model.specs.Allowance.{cheaper, cheapest_of, cost_within, greatest_ti
 use Rattle.model.specs.Cell.{span, width, place, cells_needed, cell_of, cost_in, least_cost, cell, table, offer}
 use Rattle.model.specs.Limit.{cheaper_then_shorter, within_budget, within_deadline}
 use Rattle.model.specs.Plan.{first_from, first_allowance, first_list, or_neutral}
-use Rattle.model.specs.Scan.{first_below}
+use Rattle.model.specs.Scan.{point, drops, point_at, drops_below, first_below}
 use Rattle.model.proofs.Assignments.{of_pairs, quote_timed}
 use Rattle.model.proofs.LeastCosts.{by_times, none_left}
 use Rattle.model.proofs.Rows.{deadline_row_none}
@@ -92,6 +93,13 @@ module _ {C : Type 0} (T : Meaning C) where
     span_bound [] = zero-le
     span_bound (tasks ∷ stages) = omega (arith, greatest_time_bound tasks, span_bound stages)
 
+    -- what a sheet's limits make of S and of the cells
+    pub width_bound : (book : Book) → Sound book → width T book ≤ 23041
+    width_bound book sound = let f = sound.few_stages in omega (arith, span_bound (standing book), stage_count book)
+
+    pub cells_needed_bound : (book : Book) → Sound book → cells_needed T book ≤ 391697
+    cells_needed_bound book sound = let f = sound.few_stages in mul-le (book.stages + 1) (width T book) 17 23041 (omega arith) (width_bound book sound)
+
 -- places
 module _ {C : Type 0} (T : Meaning C) (book : Book) where
   pub place_inside : (j t : ℕ) → j ≤ book.stages → t < width T book → place T book j t < cells_needed T book
@@ -152,6 +160,16 @@ module _ {C : Type 0} (K : Kind C) (T : Meaning C) (book : Book) where
 
   pub first_list_end : (t : ℕ) (spent cost : C) → first_list K T (drop book.stages (standing book)) t spent cost ≡ []
   first_list_end t spent cost = ap (λ (stages : List (List Task)). first_list K T stages t spent cost) (stages_end book)
+
+-- how many points a scan has found
+module _ {C : Type 0} (K : Kind C) (costs : ℕ → Option C) where
+  pub point_at_one : (t : ℕ) (o : Option C) → length (point_at K costs t o) ≤ 1
+  point_at_one t None = zero-le
+  point_at_one t (Some c) = elim (drops K costs t c) as (λ b. length (cond {A = List (Point C)} b (point t c ∷ []) []) ≤ 1) [ true ↦ le_refl 1 | false ↦ zero-le ]
+
+  pub drops_count : (n : ℕ) → length (drops_below K costs n) ≤ n
+  drops_count zero = zero-le
+  drops_count (suc n) = rw length-append (omega (arith, drops_count n, point_at_one n (costs n)))
 
 -- the first minute that passes
 module _ (test : ℕ → Bool) where

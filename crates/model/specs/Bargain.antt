@@ -39,6 +39,10 @@ module _ {C : Type 0} (K : Kind C) where
     pub for_budget : C → LimitMemory T book
     pub for_deadline : ℕ → LimitMemory T book
 
+-- some memory suffices for each question, on every book under every tariff
+abbrev pub SomeMemorySuffices : {C : Type 0} → Kind C → Type 0
+SomeMemorySuffices {C} K = (T : Meaning C) (book : Book) → Memory K T book
+
 -- What each question gives in its memory.
 module _ {C : Type 0} (K : Kind C) (T : Meaning C) (book : Book) (memory : Memory K T book) where
   -- `front`: how many points it answers, and so many of those that it leaves; or its refusal
@@ -143,8 +147,11 @@ BargainsAgree {C} K T U =
 abbrev pub EqualFrontsMeanSameBargains : {C : Type 0} → Kind C → Type 0
 EqualFrontsMeanSameBargains {C} K = (T U : Meaning C) → Ranged T → Ranged U → BargainsAgree K T U
 
--- a verdict on two books, `true` for equal, is right: in all memory the same statement holds of it
+-- a verdict on two books, `true` for equal, is right
 pub record Verdict {C : Type 0} (K : Kind C) (T : Meaning C) (first : Book) (U : Meaning C) (second : Book) (equal : Bool) : Type 0 where
+  -- `true` exactly where for every assignment of either book the other has one that is no longer and no dearer
+  pub by_assignments : (equal ≡ true) ↔ (Matched K T first U second × Matched K U second T first)
+  -- in all memory the same statement holds of it
   pub in_all_memory : (first_memory : Memory K T first) (second_memory : Memory K U second)
       → SameBargains K T first first_memory U second second_memory (equal ≡ true)
 

@@ -20,5 +20,6 @@ pub use theorems::{
     front_is_where_costs_drop, front_lists_unbeaten_pairs, fronts_answer_limits,
     fronts_without_stages_or_quotes, greatest_times_are_quoted, least_costs_share_out_minutes,
     limits_are_shared_out, limits_give_best_pairs, plans_go_by_the_first_list,
-    questions_keep_memory, refused_questions_alter_nothing, stages_join_all_costs,
+    questions_keep_memory, refused_questions_alter_nothing, some_memory_suffices,
+    stages_join_all_costs,
 };

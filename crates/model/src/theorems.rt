@@ -3,6 +3,7 @@ ghost use Rattle.costs.specs.Kind.{Laws};
 ghost use Rattle.model.specs.Allowance.{CheapestIsCheapest, GreatestTimesAreQuoted};
 ghost use Rattle.model.specs.Assignment.{AssignmentsAreAll};
 ghost use Rattle.model.specs.Bargain.{EnoughMemoryIsAnswered, EqualFrontsMeanSameBargains};
+ghost use Rattle.model.specs.Bargain.{SomeMemorySuffices};
 ghost use Rattle.model.specs.Better.{BetterBargainsAreShown};
 ghost use Rattle.model.specs.Cell.{CellsStandAtTheirPlaces, LeastCostsShareOutMinutes};
 ghost use Rattle.model.specs.Equations.{LimitsAreSharedOut};
@@ -116,6 +117,11 @@ pub fn questions_keep_memory<C: Cost>()
 // A refused question alters nothing, but for cells that were filled before.
 pub fn refused_questions_alter_nothing<C: Cost>()
     ensures { RefusedQuestionsAlterNothing C.Cost.kind }
+{}
+
+// On every book under every tariff some memory suffices for each question, so what is said of all such memory says something.
+pub fn some_memory_suffices<C: Cost>()
+    ensures { SomeMemorySuffices C.Cost.kind }
 {}
 
 // In memory that suffices, a question gives what book, tariff and limit decide.

@@ -30,8 +30,10 @@ fn with_digit(value: u32, byte: u8) -> u32
 pub fn read_number(text: &[u8]) -> Option<u32>
     ensures { result ≡ decimal_in text.now }
 {
-    if text.is_empty() || !text.iter().all(u8::is_ascii_digit) {
+    if text.is_empty() {
         return None;
     }
-    Some(text.iter().fold(0, |value, byte| with_digit(value, *byte)))
+    text.iter().try_fold(0, |value, byte| {
+        byte.is_ascii_digit().then(|| with_digit(value, *byte))
+    })
 }

@@ -9,7 +9,7 @@ use Rattle.costs.specs.declared.grade.Grade.{Grade}
 use Rattle.tariffs.specs.declared.card.RateCard.{RateCard}
 use Rattle.tariffs.specs.declared.table.QuoteTable.{QuoteTable}
 use Rattle.tariffs.specs.Charge.{charge_of}
-use Rattle.tariffs.specs.Line.{line}
+use Rattle.tariffs.specs.Line.{line, line_quote}
 use Rattle.tariffs.specs.Card.{lines_of, card_meaning}
 use Rattle.tariffs.specs.Table.{table_meaning}
 use Rattle.model.specs.declared.cell.Cell.{Cell}
@@ -42,6 +42,9 @@ pub record PrintedCases : Type 0 where
       → (card_meaning card).quote 0 1000000 ≡ None
   pub within_a_day : (card : RateCard) (rate : ℕ) → lines_of card ≡ line 695 rate ∷ []
       → option_map (λ q. q.minutes) ((card_meaning card).quote 0 1000000) ≡ Some 1439
+  -- and of any line by itself, on a card or not
+  pub line_too_slow_for_a_day : (rate : ℕ) → line_quote (line 694 rate) 1000000 ≡ None
+  pub line_within_a_day : (rate : ℕ) → option_map (λ q. q.minutes) (line_quote (line 695 rate) 1000000) ≡ Some 1439
   -- every card of these lines, and every table over these rows, has the meaning taken here
   pub card_A_means_A : (card : RateCard) → lines_of card ≡ lines_A → card_meaning card ≡ A
   pub card_without_lines_means_empty_card : (card : RateCard) → lines_of card ≡ [] → card_meaning card ≡ empty_card

@@ -2,7 +2,7 @@
 ghost use Rattle.std.specs.Prelude.{◌≡◌, ℕ, drop, length, slice_index_or};
 ghost use Rattle.sheets.specs.Book.{book};
 ghost use Rattle.model.specs.Assignment.{quote_of, minutes_of};
-ghost use Rattle.cells.specs.Minutes.{no_minutes, task_at, HoldsMinutes};
+ghost use Rattle.cells.specs.Minutes.{no_minutes, task_at, HoldsMinutes, KeepsStruckRows};
 
 use crate::{MinutesTable, TimedSheet, quote_of};
 use costs::Cost;
@@ -40,17 +40,20 @@ impl MinutesTable {
 }
 
 impl<'a, 'b, T: Tariff> TimedSheet<'a, 'b, T> {
-    // Asks the tariff for the minutes of all tasks, and keeps them in the table while it is lent. Rows past the tasks stay
-    // as they were.
+    // Asks the tariff for the minutes of the standing tasks, and keeps them in the table while it is lent. The rows of struck
+    // tasks and those past the tasks stay as they were.
     pub fn of(priced: &PricedSheet<'a, T>, table: &'b mut MinutesTable) -> TimedSheet<'a, 'b, T>
         ensures priced { result.priced ≡ priced.now }
         ensures minutes { let tasks = (book priced.now.sheet.now).tasks in
             HoldsMinutes (T.Tariff.meaning priced.now.tariff.now) tasks result.table.now.rows }
+        ensures struck { KeepsStruckRows (book priced.now.sheet.now).tasks table.old.rows result.table.now.rows }
         ensures behind { let count = length (book priced.now.sheet.now).tasks in
             drop count result.table.now.rows ≡ drop count table.old.rows }
     {
         for (number, task) in priced.sheet.tasks().iter().enumerate() {
-            table.rows[number] = ask_minutes(priced.tariff, task);
+            if !task.struck {
+                table.rows[number] = ask_minutes(priced.tariff, task);
+            }
         }
         TimedSheet {
             priced: *priced,
@@ -58,15 +61,17 @@ impl<'a, 'b, T: Tariff> TimedSheet<'a, 'b, T> {
         }
     }
 
-    // The minutes that a machine quotes for the task of this number, 0 without a quote.
+    // The minutes that a machine quotes for the task of this number, 0 without a quote. For a struck task, which no question
+    // asks for, the tariff is asked anew.
     pub fn minutes(&self, number: usize, machine: usize) -> u32
         ensures { result ≡ minutes_of (quote_of (T.Tariff.meaning self.now.priced.tariff.now) (task_at (book self.now.priced.sheet.now).tasks number) machine) }
     {
-        if number >= self.priced.sheet.task_count() {
-            return 0;
+        match self.priced.sheet.tasks().get(number) {
+            None => 0,
+            Some(task) if task.struck => minutes_of(quote_of(self.priced.tariff, task, machine)),
+            Some(_) => self.table.rows[number]
+                .get(machine)
+                .map_or(0, |minutes| u32::from(*minutes)),
         }
-        self.table.rows[number]
-            .get(machine)
-            .map_or(0, |minutes| u32::from(*minutes))
     }
 }
