@@ -2,7 +2,7 @@ use Rattle.std.proofs.Common.{◌≡◌, ℕ, ◌<◌, true, false, [], drop, ge
 use Rattle.sheets.specs.Book.{book}
 use Rattle.model.specs.Assignment.{quote_of, minutes_of}
 use Rattle.cells.specs.Minutes.{task_at}
-use Rattle.cells.proofs.timed.TimedSheet.of.Given as goal
+use Rattle.cells.proofs.timed.TimedSheet.of_standing.Given as goal
 
 abbrev pub invariant-loop-number : goal.invariant-loop-number
 invariant-loop-number g l =
