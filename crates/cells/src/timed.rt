@@ -8,6 +8,7 @@ use model::PricedSheet;
 use sheets::MAX_TASKS;
 use tariffs::{MAX_MACHINES, Tariff};
 
+pub mod all;
 pub mod minutes;
 
 // Memory for the minutes that each machine quotes for each task, 0 without a quote.
