@@ -48,7 +48,8 @@ impl<'a, 'b, T: Tariff> TimedSheet<'a, 'b, T> {
     ) -> TimedSheet<'a, 'b, T>
         ensures priced { result.priced ≡ priced.now }
         ensures minutes { let tasks = (book priced.now.sheet.now).tasks in
-            HoldsStandingMinutes (T.Tariff.meaning priced.now.tariff.now) tasks result.table.now.rows }
+            HoldsStandingMinutes (T.Tariff.meaning priced.now.tariff.now)
+            tasks result.table.now.rows }
         ensures struck { KeepsStruckRows (book priced.now.sheet.now).tasks
             table.old.rows result.table.now.rows }
         ensures behind { let count = length (book priced.now.sheet.now).tasks in
