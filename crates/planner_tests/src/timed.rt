@@ -1,5 +1,5 @@
 // Sheets under a tariff with the minutes of all tasks, and with those of the standing ones.
-use crate::samples::priced;
+use crate::samples::{card, priced};
 use cells::{MinutesTable, TimedSheet, cheapest, span};
 use costs::Cents;
 use sheets::{Call, Sheet};
@@ -59,11 +59,12 @@ fn all_tasks_are_timed(rt: HostRuntime) {
 #[test]
 fn standing_tasks_are_timed_in_used_memory(rt: HostRuntime) {
     let sheet = sheet_with_a_struck_task();
+    let slow = card(&[(5, 600)]);
     let card = card_a();
     let mut table = MinutesTable::new();
     assert_eq!(rt;
-        span(&TimedSheet::of(&priced(&sheet_x(), &card), &mut table)),
-        16
+        span(&TimedSheet::of(&priced(&sheet_x(), &slow), &mut table)),
+        32
     );
     let timed = TimedSheet::of_standing(&priced(&sheet, &card), &mut table);
     assert_eq!(rt; minutes_of(&timed), MINUTES);

@@ -10,7 +10,8 @@ use tariffs::Tariff;
 
 impl<'a, 'b, T: Tariff> TimedSheet<'a, 'b, T> {
     // Asks the tariff for the minutes of all tasks, struck ones too, and keeps them in the table while it is lent. Rows past
-    // the tasks stay as they were. A question, which goes by the standing tasks, takes `of_standing`.
+    // the tasks stay as they were. Questions go by standing tasks alone and take `of_standing`; no call here reads the row of
+    // a struck task, so that the contract alone tells what stands there.
     pub fn of(priced: &PricedSheet<'a, T>, table: &'b mut MinutesTable) -> TimedSheet<'a, 'b, T>
         ensures priced { result.priced ≡ priced.now }
         ensures minutes { let tasks = (book priced.now.sheet.now).tasks in
