@@ -1,4 +1,4 @@
--- The minutes that machines quote for the standing tasks of a sheet, kept in a table
+-- The minutes that machines quote for the tasks of a sheet, kept in a table
 use Rattle.std.specs.Prelude.{◌≡◌, ℕ, ◌<◌, true, false, List, [], length, replicate, slice_index_or}
 use Rattle.tariffs.specs.Meaning.{Meaning}
 use Rattle.sheets.specs.Tasks.{max_tasks, no_task}
@@ -13,9 +13,15 @@ task_at tasks number = slice_index_or tasks number no_task
 abbrev pub no_minutes : List (List ℕ)
 no_minutes = replicate max_tasks (replicate 32 0)
 
--- the table has, for each standing task and each machine, the minutes quoted, 0 without a quote
+-- the table has, for each task and each machine, the minutes quoted, 0 without a quote
 abbrev pub HoldsMinutes : {C : Type 0} → Meaning C → List Task → List (List ℕ) → Type 0
 HoldsMinutes T tasks table =
+    (number machine : ℕ) → number < length tasks
+    → slice_index_or (slice_index_or table number []) machine 0 ≡ minutes_of (quote_of T (task_at tasks number) machine)
+
+-- the same of the standing tasks alone
+abbrev pub HoldsStandingMinutes : {C : Type 0} → Meaning C → List Task → List (List ℕ) → Type 0
+HoldsStandingMinutes T tasks table =
     (number machine : ℕ) → number < length tasks → (task_at tasks number).struck ≡ false
     → slice_index_or (slice_index_or table number []) machine 0 ≡ minutes_of (quote_of T (task_at tasks number) machine)
 

@@ -2,15 +2,16 @@
 ghost use Rattle.std.specs.Prelude.{◌≡◌, length};
 ghost use Rattle.sheets.specs.Book.{book};
 ghost use Rattle.sheets.specs.Tasks.{max_tasks};
-ghost use Rattle.cells.specs.Minutes.{HoldsMinutes};
+ghost use Rattle.cells.specs.Minutes.{HoldsStandingMinutes};
 
 use model::PricedSheet;
 use sheets::MAX_TASKS;
 use tariffs::{MAX_MACHINES, Tariff};
 
+pub mod all;
 pub mod minutes;
 
-// Memory for the minutes that each machine quotes for each standing task, 0 without a quote.
+// Memory for the minutes that each machine quotes for each task, 0 without a quote.
 #[derive(Drop)]
 pub struct MinutesTable {
     rows: [[u16; MAX_MACHINES]; MAX_TASKS],
@@ -23,5 +24,6 @@ pub struct MinutesTable {
 pub struct TimedSheet<'a, 'b, T: Tariff> {
     pub priced: PricedSheet<'a, T>,
     table: &'b MinutesTable,
-    ghost timed: { HoldsMinutes (T.Tariff.meaning priced.tariff.now) (book priced.sheet.now).tasks table.now.rows },
+    ghost timed: { HoldsStandingMinutes (T.Tariff.meaning priced.tariff.now)
+        (book priced.sheet.now).tasks table.now.rows },
 }

@@ -117,7 +117,7 @@ pub fn better_bargain<T: Tariff, U: Tariff<Cost = T::Cost>>(
 {
     let mut first_table = MinutesTable::new();
     let mut second_table = MinutesTable::new();
-    let first = TimedSheet::of(first, &mut first_table);
-    let second = TimedSheet::of(second, &mut second_table);
+    let first = TimedSheet::of_standing(first, &mut first_table);
+    let second = TimedSheet::of_standing(second, &mut second_table);
     compare(&first, &second, cells, first_points, second_points)
 }

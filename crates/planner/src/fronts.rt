@@ -54,6 +54,6 @@ pub fn front<T: Tariff>(
     ensures known { KnownFurther priced.now.sheet.now Call.Front priced.now.sheet.now }
 {
     let mut table = MinutesTable::new();
-    let timed = TimedSheet::of(priced, &mut table);
+    let timed = TimedSheet::of_standing(priced, &mut table);
     write_front(&timed, cells, points)
 }

@@ -133,7 +133,7 @@ pub fn budget<T: Tariff>(
     ensures known { KnownFurther priced.now.sheet.now Call.Budget priced.now.sheet.now }
 {
     let mut table = MinutesTable::new();
-    let timed = TimedSheet::of(priced, &mut table);
+    let timed = TimedSheet::of_standing(priced, &mut table);
     answer_limit(&timed, Limit::Budget(limit), cells, bytes)
 }
 
@@ -157,6 +157,6 @@ pub fn deadline<T: Tariff>(
     ensures known { KnownFurther priced.now.sheet.now Call.Deadline priced.now.sheet.now }
 {
     let mut table = MinutesTable::new();
-    let timed = TimedSheet::of(priced, &mut table);
+    let timed = TimedSheet::of_standing(priced, &mut table);
     answer_limit(&timed, Limit::Deadline(limit), cells, bytes)
 }

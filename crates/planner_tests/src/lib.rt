@@ -13,3 +13,5 @@ mod grades;
 mod limits;
 #[cfg(test)]
 mod samples;
+#[cfg(test)]
+mod timed;

@@ -20,7 +20,7 @@ impl<C: Cost> Memory<C> {
         priced: &PricedSheet<T>,
     ) -> Result<Memory<C>, AllocError> {
         let mut table = MinutesTable::new();
-        let timed = TimedSheet::of(priced, &mut table);
+        let timed = TimedSheet::of_standing(priced, &mut table);
         let width = span(&timed) as usize + 1;
         let size = (priced.sheet.stage_count() + 1) * width;
         let point = Point {

@@ -53,11 +53,11 @@ impl<C: Amount, T: Tariff<Cost = C>> Case<'_, C, T> {
         let rt = self.timer.rt;
         self.timer.time("fill", || {
             let mut table = MinutesTable::new();
-            let timed = TimedSheet::of(&self.priced, &mut table);
+            let timed = TimedSheet::of_standing(&self.priced, &mut table);
             fill(&timed, &mut self.memory.cells).map_err(|_| anyhow!("too few cells"))
         })?;
         let mut table = MinutesTable::new();
-        let timed = TimedSheet::of(&self.priced, &mut table);
+        let timed = TimedSheet::of_standing(&self.priced, &mut table);
         let times = times_count(&timed);
         let span = span(&timed);
         println!(rt; "times {times}, span {span}")?;

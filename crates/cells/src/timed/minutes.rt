@@ -2,7 +2,7 @@
 ghost use Rattle.std.specs.Prelude.{◌≡◌, ℕ, drop, length, slice_index_or};
 ghost use Rattle.sheets.specs.Book.{book};
 ghost use Rattle.model.specs.Assignment.{quote_of, minutes_of};
-ghost use Rattle.cells.specs.Minutes.{no_minutes, task_at, HoldsMinutes, KeepsStruckRows};
+ghost use Rattle.cells.specs.Minutes.{no_minutes, task_at, HoldsStandingMinutes, KeepsStruckRows};
 
 use crate::{MinutesTable, TimedSheet, quote_of};
 use costs::Cost;
@@ -18,7 +18,7 @@ fn minutes_of<C: Cost>(quote: Option<Quote<C>>) -> u32
 }
 
 // The minutes that each machine quotes for a task, 0 without a quote.
-fn ask_minutes<T: Tariff>(tariff: &T, task: &Task) -> [u16; MAX_MACHINES]
+pub(crate) fn ask_minutes<T: Tariff>(tariff: &T, task: &Task) -> [u16; MAX_MACHINES]
     ensures { (machine : ℕ) → slice_index_or result machine 0 ≡ minutes_of (quote_of (T.Tariff.meaning tariff.now) task.now machine) }
 {
     let mut minutes = [0; MAX_MACHINES];
@@ -42,11 +42,16 @@ impl MinutesTable {
 impl<'a, 'b, T: Tariff> TimedSheet<'a, 'b, T> {
     // Asks the tariff for the minutes of the standing tasks, and keeps them in the table while it is lent. The rows of struck
     // tasks and those past the tasks stay as they were.
-    pub fn of(priced: &PricedSheet<'a, T>, table: &'b mut MinutesTable) -> TimedSheet<'a, 'b, T>
+    pub fn of_standing(
+        priced: &PricedSheet<'a, T>,
+        table: &'b mut MinutesTable,
+    ) -> TimedSheet<'a, 'b, T>
         ensures priced { result.priced ≡ priced.now }
         ensures minutes { let tasks = (book priced.now.sheet.now).tasks in
-            HoldsMinutes (T.Tariff.meaning priced.now.tariff.now) tasks result.table.now.rows }
-        ensures struck { KeepsStruckRows (book priced.now.sheet.now).tasks table.old.rows result.table.now.rows }
+            HoldsStandingMinutes (T.Tariff.meaning priced.now.tariff.now)
+            tasks result.table.now.rows }
+        ensures struck { KeepsStruckRows (book priced.now.sheet.now).tasks
+            table.old.rows result.table.now.rows }
         ensures behind { let count = length (book priced.now.sheet.now).tasks in
             drop count result.table.now.rows ≡ drop count table.old.rows }
     {

@@ -8,16 +8,16 @@ use Rattle.planner.proofs.better.better_bargain.Goals as goal
 
 pub returns : goal.returns
 returns g c =
-    let T = g.T.Tariff.meaning c.of-first.result.priced.tariff.now in
-    let U = g.U.Tariff.meaning c.of-second.result.priced.tariff.now in
-    let F = g.T.Tariff.ranged c.of-first.result.priced.tariff.now in
-    let G = g.U.Tariff.ranged c.of-second.result.priced.tariff.now in
+    let T = g.T.Tariff.meaning c.of_standing-first.result.priced.tariff.now in
+    let U = g.U.Tariff.meaning c.of_standing-second.result.priced.tariff.now in
+    let F = g.T.Tariff.ranged c.of_standing-first.result.priced.tariff.now in
+    let G = g.U.Tariff.ranged c.of_standing-second.result.priced.tariff.now in
     let laws = laws_of g.met.T.Cost.Cost in
-    rw (sym c.of-first.ensures.priced, sym c.of-second.ensures.priced) (record {
+    rw (sym c.of_standing-first.ensures.priced, sym c.of_standing-second.ensures.priced) (record {
       answer = c.compare.ensures.answer;
       cells = c.compare.ensures.cells;
       first_points = c.compare.ensures.first_points;
       second_points = c.compare.ensures.second_points;
-      words = better_tells laws T U F G (book c.of-first.result.priced.sheet.now) (book c.of-second.result.priced.sheet.now) c.args.cells.now c.args.first_points.now c.args.second_points.now c.compare.result c.compare.ensures.answer;
+      words = better_tells laws T U F G (book c.of_standing-first.result.priced.sheet.now) (book c.of_standing-second.result.priced.sheet.now) c.args.cells.now c.args.first_points.now c.args.second_points.now c.compare.result c.compare.ensures.answer;
       known = (known_further _ Front _ refl, known_further _ Front _ refl);
     })

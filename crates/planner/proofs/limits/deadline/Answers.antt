@@ -9,16 +9,16 @@ use Rattle.planner.proofs.limits.deadline.Goals as goal
 
 pub returns : goal.returns
 returns g c =
-    let T = g.T.Tariff.meaning c.of-timed.result.priced.tariff.now in
-    let F = g.T.Tariff.ranged c.of-timed.result.priced.tariff.now in
+    let T = g.T.Tariff.meaning c.of_standing-timed.result.priced.tariff.now in
+    let F = g.T.Tariff.ranged c.of_standing-timed.result.priced.tariff.now in
     let laws = laws_of g.met.T.Cost.Cost in
     let told = c.answer_limit.ensures in
-    rw (sym c.of-timed.ensures.priced) (record {
+    rw (sym c.of_standing-timed.ensures.priced) (record {
       answer = told.answer;
       cells = told.cells;
       bytes = told.bytes;
-      words = deadline_tells laws T F c.of-timed.result.priced.sheet.now c.args.cells.now c.args.bytes.now c.answer_limit.new.bytes c.args.limit c.answer_limit.result told.answer told.bytes;
-      equation = deadline_equation laws T F c.of-timed.result.priced.sheet.now c.args.cells.now c.args.bytes.now c.args.limit c.answer_limit.result told.answer;
-      off_the_front = deadline_off_the_front laws T F c.of-timed.result.priced.sheet.now c.args.limit c.args.cells.now c.args.bytes.now c.answer_limit.result told.answer;
+      words = deadline_tells laws T F c.of_standing-timed.result.priced.sheet.now c.args.cells.now c.args.bytes.now c.answer_limit.new.bytes c.args.limit c.answer_limit.result told.answer told.bytes;
+      equation = deadline_equation laws T F c.of_standing-timed.result.priced.sheet.now c.args.cells.now c.args.bytes.now c.args.limit c.answer_limit.result told.answer;
+      off_the_front = deadline_off_the_front laws T F c.of_standing-timed.result.priced.sheet.now c.args.limit c.args.cells.now c.args.bytes.now c.answer_limit.result told.answer;
       known = known_further _ Deadline _ refl;
     })

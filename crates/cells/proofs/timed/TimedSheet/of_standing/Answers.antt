@@ -7,8 +7,8 @@ use Rattle.sheets.specs.declared.task.Task.{Task}
 use Rattle.model.specs.Assignment.{quote_of, minutes_of}
 use Rattle.cells.specs.Minutes.{task_at}
 use Rattle.cells.specs.declared.timed.MinutesTable.{MinutesTable}
-use Rattle.cells.proofs.timed.TimedSheet.of.Goals as goal
-use Rattle.cells.proofs.timed.TimedSheet.of.Goals.{then-not-task, else-not-task}
+use Rattle.cells.proofs.timed.TimedSheet.of_standing.Goals as goal
+use Rattle.cells.proofs.timed.TimedSheet.of_standing.Goals.{then-not-task, else-not-task}
 
 pub loop-number-preserved : goal.loop-number-preserved
 loop-number-preserved g c =
